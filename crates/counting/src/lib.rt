@@ -1,0 +1,1 @@
+// Definitions and lemmas on counts over processes; the crates above have the functions that compute them.
