@@ -1,0 +1,4 @@
+pub mod Gathering
+pub mod Signing
+pub mod RowPairs
+pub mod RowSigning
