@@ -8,7 +8,7 @@ use crate::membership::Committee;
 use refusals::Refusal;
 
 // The greatest view that a record or a call can name: the last place of epoch 65,535 where f is 10.
-const LAST_VIEW: u32 = 720_885;
+pub const LAST_VIEW: u32 = 720_885;
 
 impl Committee {
     // The epoch of a view and its place there, both counted from 1.
