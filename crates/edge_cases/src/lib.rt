@@ -16,5 +16,4 @@ pub fn edge_cases() -> usize
 // A lemma as a call: it computes nothing, and its contract is the fact.
 fn cases_stand()
     ensures { λ _. ⌜ allHold cases ≡ true ⌝ }
-{
-}
+{}

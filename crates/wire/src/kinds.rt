@@ -2,9 +2,7 @@
 ghost use mathlib.Core.Path.{_≡_};
 ghost use Prim.Native.Nat.{_≤_};
 ghost use lib.ListN.{length};
-ghost use Rattle.std.specs.Options.{Cases as BySome};
-ghost use Rattle.wire.specs.Kinds.{kindNumber, kindName, isKind};
-ghost use mathlib.Core.Bool.{false};
+ghost use Rattle.wire.specs.Kinds.{kindNumber, kindName, kindOf};
 use crate::kind::Kind;
 
 impl Kind {
@@ -16,7 +14,7 @@ impl Kind {
 
     // None where no kind has the number.
     pub fn from_number(number: u8) -> Option<Kind>
-        ensures { λ r. ⌜ BySome r (isKind number ≡ false) (λ k. kindNumber k ≡ number) ⌝ }
+        ensures { λ r. ⌜ r ≡ kindOf number ⌝ }
     {
         match number {
             1 => Some(Kind::Disclose),

@@ -1,9 +1,6 @@
 // A vouch's number.
 ghost use mathlib.Core.Path.{_≡_};
-ghost use mathlib.Core.Bool.{false};
-ghost use lib.Dec.{leb};
-ghost use Rattle.std.specs.Options.{Cases as BySome};
-ghost use Rattle.wire.specs.Kinds.{vouchNumber};
+ghost use Rattle.wire.specs.Kinds.{vouchNumber, vouchOf};
 use crate::vouch::Vouch;
 
 impl Vouch {
@@ -15,7 +12,7 @@ impl Vouch {
 
     // None where no vouch has the number.
     pub fn from_number(number: u8) -> Option<Vouch>
-        ensures { λ r. ⌜ BySome r (leb number 2 ≡ false) (λ v. vouchNumber v ≡ number) ⌝ }
+        ensures { λ r. ⌜ r ≡ vouchOf number ⌝ }
     {
         match number {
             0 => Some(Vouch::Nothing),
