@@ -11,12 +11,12 @@ use lib.ListN.{length, getD, take}
 use lib.Seq.{take-all}
 use Rattle.std.proofs.shelf.Bits.{or-lt, pow-below}
 use Rattle.std.proofs.shelf.Tests.{ne-eqb, lt-ltb, and-left, and-right, cond-true}
-use Rattle.counting.specs.Counts.{any}
+use Rattle.counting.specs.Counts.{any, countTo}
 use Rattle.counting.proofs.Any.{any-more}
 use Rattle.counting.proofs.Sums.{count-same}
 use Rattle.counting.proofs.Bits.{ones-count, bitAt-with, bitAt-none}
 use Rattle.committee.specs.declared.sets.ProcessSet.{ProcessSet}
-use Rattle.committee.specs.Sets.{contains, with-member, of-bits}
+use Rattle.committee.specs.Sets.{contains, with-member, size, of-bits}
 use Rattle.register.specs.Distinct.{seen, Gathered}
 
 or-false : (a : Bool) → (a || false) ≡ a
@@ -73,6 +73,26 @@ module _ {X : Type 0} (process : X → ℕ) (counts : X → Bool) where
   stands-all s xs i h inv =
       let whole : (p : ℕ) → p < 31 → contains s p ≡ seen process counts xs p = λ p l. inv .1 p l ∙ ap (λ (zs : List X). seen process counts zs p) (take-all i xs h) in
       record {
+        low = inv .0;
         members = whole;
         count = ones-count 31 (s .bits) (inv .0) ∙ count-same (contains s) (seen process counts xs) 31 whole;
       }
+
+-- ---- one process more
+
+or-swap : (a b : Bool) → (a || b) ≡ (b || a)
+or-swap true true = refl
+or-swap true false = refl
+or-swap false true = refl
+or-swap false false = refl
+
+pub gathered-with : (t : ℕ → Bool) (s : ProcessSet) (p : ℕ) → Gathered t s → p ≤ 30 → size (with-member s p) ≡ countTo (λ q. eqb p q || t q) 31
+gathered-with t s p g h =
+    ones-count 31 (with-member s p .bits) (with-low s p h (g .low))
+    ∙ count-same (contains (with-member s p)) (λ q. eqb p q || t q) 31
+    (λ q l. with-contains s p q h ∙ or-swap (contains s q) (eqb p q) ∙ ap (λ (b : Bool). eqb p q || b) (g .members q l))
+
+-- a number above 30 is no process
+pub gathered-without : (t : ℕ → Bool) (s : ProcessSet) (p : ℕ) → Gathered t s → 30 < p → size s ≡ countTo (λ q. eqb p q || t q) 31
+gathered-without t s p g h =
+    g .count ∙ count-same t (λ q. eqb p q || t q) 31 (λ q l. ap (λ (b : Bool). b || t q) (sym (ne-eqb p q (λ e. omega arith))))

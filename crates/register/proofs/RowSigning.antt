@@ -68,9 +68,11 @@ gathered-row rs s m h e =
     ap (λ (b : Bool). b && contains m p) (sym (lt-ltb p 31 l)) ∙ ap (λ (k : ProcessSet). ltb p 31 && contains k p) e
     ∙ sym (has-signers rs p s h) ∙ sym (has-pairs rs p s) in
     let P : ProcessSet → Type 0 = λ k. k .bits < 2 ^ 31 in
+    let small : m .bits < 2 ^ 31 = subst P (sym e) (signers-low rs s h) in
     record {
+      low = small;
       members = whole;
-      count = ones-count 31 (m .bits) (subst P (sym e) (signers-low rs s h)) ∙ count-same (contains m) (λ p. hasPair (pairsOf rs) p s) 31 whole;
+      count = ones-count 31 (m .bits) small ∙ count-same (contains m) (λ p. hasPair (pairsOf rs) p s) 31 whole;
     }
 
 new-here : (p q : ℕ) (B S R : Bool) → p ≤ 30 → ((ltb q 31 && ((B || eqb p q) && S)) || R) ≡ (((ltb q 31 && (B && S)) || R) || (eqb p q && S))

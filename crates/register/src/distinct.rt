@@ -19,9 +19,15 @@ fn gather<Q, T: Attests<Q>>(items: &[T], query: &Q) -> ProcessSet
     found
 }
 
+pub fn distinct_processes<Q, T: Attests<Q>>(items: &[T], query: &Q) -> ProcessSet
+    ensures { λ r. ⌜ Gathered (seen process (λ x. counts x (now (query .entry))) (now (items .entry))) r ⌝ }
+{
+    gather(items, query)
+}
+
 // How many they are.
 pub fn count_distinct<Q, T: Attests<Q>>(items: &[T], query: &Q) -> u32
     ensures { λ r. ⌜ r ≡ countTo (seen process (λ x. counts x (now (query .entry))) (now (items .entry))) 31 ⌝ }
 {
-    gather(items, query).len()
+    distinct_processes(items, query).len()
 }

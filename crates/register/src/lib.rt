@@ -9,6 +9,7 @@ pub mod tally;
 
 pub use attests::Attests;
 pub use distinct::count_distinct;
+pub use distinct::distinct_processes;
 pub use ledger::Register;
 pub use ledger::Unsigned;
 pub use pair::Pair;

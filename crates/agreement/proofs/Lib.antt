@@ -1,0 +1,11 @@
+pub mod Elements
+pub mod Prefixes
+pub mod Sums
+pub mod Records
+pub mod Shares
+pub mod Growth
+pub mod Allowing
+pub mod Lock
+pub mod Validity
+pub mod Words
+pub mod Safety

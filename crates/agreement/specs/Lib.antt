@@ -1,0 +1,5 @@
+pub mod Wires
+pub mod Signing
+pub mod Words
+pub mod Facts
+pub mod Safety

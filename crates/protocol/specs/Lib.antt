@@ -1,0 +1,10 @@
+pub mod Processes
+pub mod Ranges
+pub mod Steps
+pub mod Sending
+pub mod Certifying
+pub mod Synchronizing
+pub mod Voting
+pub mod Moments
+pub mod Plans
+pub mod Runs
