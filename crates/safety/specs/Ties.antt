@@ -42,8 +42,8 @@ pub record Advances (q u : Process) : Type 0 where
   pub allowed : q .certification .allowed ≡ true → u .certification .allowed ≡ true
   pub epoch : (q .synchronizer .epoch < u .synchronizer .epoch)
       ⊎ ((q .synchronizer .epoch ≡ u .synchronizer .epoch)
-        × (q .synchronizer .spread ≡ 0 → u .synchronizer .spread ≡ 0)
-        × (q .synchronizer .due ≡ 0 → q .synchronizer .spread ≡ 0 → u .synchronizer .due ≡ 0))
+      × (q .synchronizer .spread ≡ 0 → u .synchronizer .spread ≡ 0)
+      × (q .synchronizer .due ≡ 0 → q .synchronizer .spread ≡ 0 → u .synchronizer .due ≡ 0))
   pub view : (q .core .view < u .core .view) ⊎ ((q .core .view ≡ u .core .view) × (q .core .step ≤ u .core .step) × (q .core .lead ≤ u .core .lead))
 
 pub record Tied (c : Committee) (ws : Wire) (p : ℕ) (q : Process) : Type 0 where
