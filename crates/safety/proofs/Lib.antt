@@ -1,2 +1,9 @@
 pub mod Lasting
 pub mod Sending
+pub mod Pasts
+pub mod Addressing
+pub mod Resting
+pub mod Voting
+pub mod Leading
+pub mod Synchronizing
+pub mod Certifying
