@@ -49,6 +49,7 @@ module _ (s : Setting) (leader : ℕ → ℕ) (ws : Wire) (p : ℕ) (q : Process
       record {
         formed = record { sender = member; early = λ _. refl; late = λ e. absurd (omega arith); blank = λ e. absurd (omega (arith, e)) };
         sender = refl;
+        new = refl;
         lawful = lawful-plain c leader ws r ((λ e. omega arith), (λ e. omega arith), (λ e. omega arith), (λ e. omega arith), (λ e. omega arith))
             (fresh c ws p 1 0 q t (λ h. both-ways _ (h .disclosed refl) still))
             (to-all c leader r refl (not-to 1 (λ e. omega arith) (λ e. omega arith) (λ e. omega arith) (λ e. omega arith))
@@ -81,6 +82,7 @@ module _ (s : Setting) (leader : ℕ → ℕ) (ws : Wire) (p : ℕ) (q : Process
       record {
         formed = record { sender = member; early = λ _. refl; late = λ e. absurd (omega arith); blank = λ _. refl };
         sender = refl;
+        new = refl;
         lawful = record {
           fresh = fresh c ws p 2 0 q t (λ h. both-ways _ new (h .allowed refl));
           addressed = to-all c leader r refl (not-to 2 (λ e. omega arith) (λ e. omega arith) (λ e. omega arith) (λ e. omega arith))
@@ -111,6 +113,7 @@ module _ (s : Setting) (leader : ℕ → ℕ) (ws : Wire) (p : ℕ) (q : Process
       record {
         formed = record { sender = member; early = λ _. refl; late = λ e. absurd (omega arith); blank = λ e. absurd (omega (arith, e)) };
         sender = refl;
+        new = refl;
         lawful = lawful-plain c leader ws r ((λ e. omega arith), (λ e. omega arith), (λ e. omega arith), (λ e. omega arith), (λ e. omega arith))
             (fresh c ws p 3 0 q t (λ h. both-ways _ waits (h .certified refl)))
             (to-all c leader r refl (not-to 3 (λ e. omega arith) (λ e. omega arith) (λ e. omega arith) (λ e. omega arith))
@@ -126,6 +129,7 @@ module _ (s : Setting) (leader : ℕ → ℕ) (ws : Wire) (p : ℕ) (q : Process
       record {
         formed = ready .formed;
         sender = refl;
+        new = refl;
         lawful = lawful-plain c leader (ws ++ (r ∷ [])) z ((λ i. omega arith), (λ i. omega arith), (λ i. omega arith), (λ i. omega arith), (λ i. omega arith))
             (fresh-behind ws p 6 1 r (λ i. omega arith) (ready .lawful .fresh)) (ready .lawful .addressed);
       }

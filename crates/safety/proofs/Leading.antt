@@ -55,6 +55,7 @@ module _ (c : Committee) (leader : ℕ → ℕ) (ws : Wire) (p : ℕ) (q : Proce
           blank = λ e. absurd (elim e [ inl i ↦ omega arith | inr i ↦ omega arith ]);
         };
         sender = refl;
+        new = refl;
         lawful = lawful-plain c leader ws r
             ((λ e. omega arith), (λ e. omega arith), (λ e. omega (arith, odd .1)), (λ e. omega (arith, odd .1)), (λ e. omega (arith, odd .1)))
             (fresh c ws p (kindNumber k) v q t new)

@@ -7,3 +7,5 @@ pub mod Voting
 pub mod Leading
 pub mod Synchronizing
 pub mod Certifying
+pub mod Appending
+pub mod Marking

@@ -7,6 +7,7 @@ use Prim.Native.Nat.{ℕ, _+_, _-_, _*_, _≤_, _<_}
 use Rattle.std.specs.shelf.Lists.{All}
 use Rattle.counting.specs.Counts.{any}
 use Rattle.committee.specs.declared.membership.Committee.{Committee}
+use Rattle.committee.specs.Sets.{of-bits}
 use Rattle.committee.specs.Views.{epochOf, viewOf}
 use Rattle.wire.specs.declared.record.Record.{Record}
 use Rattle.wire.specs.Kinds.{kindNumber}
@@ -26,6 +27,7 @@ use Rattle.safety.proofs.Sending.{past-own, told-own, locked-own, last-own}
 pub record Ready (c : Committee) (leader : ℕ → ℕ) (ws : Wire) (p : ℕ) (r : Record) : Type 0 where
   pub formed : Formed c r
   pub sender : r .sender ≡ p
+  pub new : r .heeded ≡ of-bits 0
   pub lawful : Lawful c leader ws r
 
 -- the ties to what the synchronizer, the view and the decision say

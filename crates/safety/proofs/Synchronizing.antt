@@ -61,6 +61,7 @@ module _ (s : Setting) (leader : ℕ → ℕ) (ws : Wire) (p : ℕ) (q : Process
       record {
         formed = record { sender = member; early = λ e. absurd (omega arith); late = λ _. one; blank = λ e. absurd (omega (arith, e)) };
         sender = refl;
+        new = refl;
         lawful = lawful-plain c leader ws r ((λ e. omega arith), (λ e. omega arith), (λ e. omega arith), (λ e. omega arith), (λ e. omega arith))
             (fresh c ws p 6 v q t (λ h. omega (arith, h .viewed refl)))
             (to-one c leader r l led refl (not-by 6 (λ e. omega arith) (λ e. omega arith) (λ e. omega arith) (λ e. omega arith)));
@@ -115,6 +116,7 @@ module _ (s : Setting) (leader : ℕ → ℕ) (ws : Wire) (p : ℕ) (q : Process
       record {
         formed = record { sender = member; early = λ i. absurd (omega arith); late = λ _. one; blank = λ _. refl };
         sender = refl;
+        new = refl;
         lawful = record {
           fresh = fresh c ws p 4 e q t (λ i. omega (arith, i .completed refl .1 refl .0));
           addressed = to-all c leader r refl (not-to 4 (λ i. omega arith) (λ i. omega arith) (λ i. omega arith) (λ i. omega arith))
@@ -149,6 +151,7 @@ module _ (s : Setting) (leader : ℕ → ℕ) (ws : Wire) (p : ℕ) (q : Process
       record {
         formed = record { sender = member; early = λ i. absurd (omega arith); late = λ _. one; blank = λ _. refl };
         sender = refl;
+        new = refl;
         lawful = lawful-plain c leader ws r ((λ i. omega arith), (λ i. omega arith), (λ i. omega arith), (λ i. omega arith), (λ i. omega arith))
             (fresh c ws p 5 e q t (λ i. omega (arith, i .entered refl .1 refl)))
             (to-all c leader r refl (not-to 5 (λ i. omega arith) (λ i. omega arith) (λ i. omega arith) (λ i. omega arith))
@@ -165,6 +168,7 @@ module _ (s : Setting) (leader : ℕ → ℕ) (ws : Wire) (p : ℕ) (q : Process
       record {
         formed = ready .formed;
         sender = refl;
+        new = refl;
         lawful = lawful-plain c leader (ws ++ (r ∷ [])) z ((λ i. omega arith), (λ i. omega arith), (λ i. omega arith), (λ i. omega arith), (λ i. omega arith))
             (fresh-behind ws p 6 (viewHere s q 1) r (λ i. omega arith) (ready .lawful .fresh)) (ready .lawful .addressed);
       }

@@ -49,6 +49,7 @@ module _ (c : Committee) (leader : ℕ → ℕ) (ws : Wire) (g : Facts c leader 
       record {
         formed = record { sender = member; early = λ e. absurd (omega arith); late = λ _. one; blank = λ e. absurd (omega (arith, e)) };
         sender = refl;
+        new = refl;
         lawful = record {
           fresh = fresh c ws p 8 v q t (λ h. omega (arith, h .prepared refl .1 n));
           addressed = to-one c leader (toOne l p PrepareVote v x) l led refl (not-by 8 (λ e. omega arith) (λ e. omega arith) (λ e. omega arith) (λ e. omega arith));
@@ -87,6 +88,7 @@ module _ (c : Committee) (leader : ℕ → ℕ) (ws : Wire) (g : Facts c leader 
       record {
         formed = record { sender = member; early = λ e. absurd (omega arith); late = λ _. one; blank = λ e. absurd (omega (arith, e)) };
         sender = refl;
+        new = refl;
         lawful = record {
           fresh = fresh c ws p 10 v q t (λ h. omega (arith, h .precommitted refl .1 n));
           addressed = to-one c leader (toOne l p PrecommitVote v x) l led refl (not-by 10 (λ e. omega arith) (λ e. omega arith) (λ e. omega arith) (λ e. omega arith));
@@ -116,6 +118,7 @@ module _ (c : Committee) (leader : ℕ → ℕ) (ws : Wire) (g : Facts c leader 
       record {
         formed = record { sender = member; early = λ e. absurd (omega arith); late = λ _. one; blank = λ e. absurd (omega (arith, e)) };
         sender = refl;
+        new = refl;
         lawful = record {
           fresh = fresh c ws p 12 v q t (λ h. omega (arith, h .committed refl .1 n));
           addressed = to-one c leader (toOne l p CommitVote v x) l led refl (not-by 12 (λ e. omega arith) (λ e. omega arith) (λ e. omega arith) (λ e. omega arith));
