@@ -25,6 +25,7 @@ use Rattle.wire.specs.Shares.{shareOf}
 use Rattle.protocol.specs.Moments.{Signed, withStatement, withShare}
 use Rattle.agreement.specs.Wires.{Wire, sends, heardOf}
 use Rattle.agreement.specs.Signing.{isShare, signs}
+use Rattle.safety.specs.Kept.{Matches}
 
 -- the record written behind the used ones is the last of them
 pub used-more : (w : Wire) (n : ℕ) (r : Record) → n < length w → take (n + 1) (set w n r) ≡ take n w ++ (r ∷ [])
@@ -35,9 +36,6 @@ or-none true = refl
 or-none false = refl
 
 -- ---- the register holds just what the records sign
-
-abbrev pub Matches : Signed → Wire → Type 0
-Matches z ws = (p : ℕ) (s : Statement) → z .has p s ≡ any (signs p s) ws
 
 share-more : (z : Signed) (p q : ℕ) (o : Option Statement) (t : Statement) → withStatement o p z .has q t ≡ (z .has q t || (eqb p q && isShare o t))
 share-more z p q None t = or-none (z .has q t) ∙ ap (λ (b : Bool). z .has q t || b) (sym (and-right (eqb p q) false refl))

@@ -9,3 +9,4 @@ pub mod Synchronizing
 pub mod Certifying
 pub mod Appending
 pub mod Marking
+pub mod Keeping

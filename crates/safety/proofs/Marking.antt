@@ -1,24 +1,32 @@
 -- What marking a record as got and heeded does to what was heard. Assumes nothing.
-use mathlib.Core.Path.{_≡_, refl, sym, ap, ap₂, _∙_}
+use mathlib.Core.Path.{_≡_, refl, sym, ap, ap₂, _∙_, subst}
 use mathlib.Core.Bool.{Bool, true, false, cond, _&&_, _||_}
 use mathlib.Core.List.{List}
 use Prim.Native.Nat.{ℕ, _+_, _≤_, _<_}
 use native.Mathlib.Omega.{arith}
 use lib.Dec.{eqb}
-use lib.ListN.{length, getD, set}
+use lib.ListN.{length, getD, set, take, length-set}
+use lib.Seq.{getD-take, length-take-le}
 use Rattle.std.proofs.shelf.Tests.{and-left, and-right, ne-eqb}
 use Rattle.counting.specs.Counts.{any, countTo}
 use Rattle.counting.proofs.Sums.{count-same}
 use Rattle.committee.specs.declared.sets.ProcessSet.{ProcessSet}
 use Rattle.committee.specs.Sets.{contains, with-member}
+use Rattle.committee.specs.Thresholds.{weakQuorumOf}
 use Rattle.register.proofs.Gathering.{with-contains}
 use Rattle.wire.specs.declared.record.Record.{Record}
 use Rattle.wire.specs.Kinds.{kindNumber}
-use Rattle.protocol.specs.Moments.{delivered}
-use Rattle.agreement.specs.Wires.{Wire, sends, heardOf}
-use Rattle.agreement.specs.Facts.{Same}
+use Rattle.protocol.specs.Moments.{Moment, moment, delivered, marked, recordAt, noRecord}
+use Rattle.protocol.specs.Plans.{seat, usedOf}
+use Rattle.agreement.specs.Wires.{Wire, Correct, sends, heardOf}
+use Rattle.agreement.specs.Facts.{Facts, Same}
 use Rattle.agreement.proofs.Elements.{any-set}
 use Rattle.agreement.proofs.Records.{same-sends}
+use Rattle.agreement.proofs.Growth.{facts-set, set-signs}
+use Rattle.agreement.proofs.Prefixes.{take-set-in}
+use Rattle.safety.specs.Ties.{Tied}
+use Rattle.safety.specs.Kept.{committeeOf, Matches, KeptBut, Kept}
+use Rattle.safety.proofs.Lasting.{tied-set}
 
 -- a delivery changes nothing that the facts speak of
 pub delivered-same : (p : ℕ) (h : Bool) (r : Record) → Same r (delivered p h r)
@@ -53,4 +61,50 @@ module _ (ws : Wire) (i : ℕ) (d : Record) (l : i < length ws) (p : ℕ) (small
       let z = delivered p h r in
       any-set (λ x. contains (x .heeded) o && sends q 1 0 w x) ws i z d l
       (and-right (contains (r .heeded) o) (sends q 1 0 w r) n
-       ∙ sym (and-right (contains (z .heeded) o) (sends q 1 0 w z) (sym (same-sends q 1 0 w r z (delivered-same p h r)) ∙ n)))
+      ∙ sym (and-right (contains (z .heeded) o) (sends q 1 0 w z) (sym (same-sends q 1 0 w r z (delivered-same p h r)) ∙ n)))
+
+-- ---- the used part of a wire of which one record is marked
+
+pub used-marked : (w : Wire) (n i p : ℕ) (h : Bool) → i < n → take n (marked p i h w) ≡ set (take n w) i (delivered p h (recordAt (take n w) i))
+used-marked w n i p h l =
+    take-set-in n w i (delivered p h (recordAt w i)) l ∙ ap (λ (r : Record). set (take n w) i (delivered p h r)) (sym (getD-take n w i noRecord l))
+
+module _ (leader : ℕ → ℕ) (p : ℕ) (m : Moment) (i : ℕ) (h : Bool) (k : Kept leader m) (below : i < m .table .used) (small : p ≤ 30) where
+  abbrev after : Moment
+  after = moment (m .table) (marked p i h (m .wire)) (m .signed)
+
+  within : i < length (usedOf m)
+  within = rw (length-take-le (m .table .used) (m .wire) (k .used)) below
+
+  abbrev ms : Wire
+  ms = set (usedOf m) i (delivered p h (recordAt (usedOf m) i))
+
+  is : usedOf after ≡ ms
+  is = used-marked (m .wire) (m .table .used) i p h below
+
+  marks-same : Same (recordAt (usedOf m) i) (delivered p h (recordAt (usedOf m) i))
+  marks-same = delivered-same p h (recordAt (usedOf m) i)
+
+  -- whose ties they are, they stay
+  pub tied-marked : (o : ℕ) → o < committeeOf m .n → Correct (committeeOf m) o → Tied (committeeOf m) (usedOf after) o (seat (m .table) o)
+  tied-marked o l g =
+      let T : Wire → Type 0 = λ ws. Tied (committeeOf m) ws o (seat (m .table) o) in
+      subst T (sym is) (tied-set (committeeOf m) (usedOf m) o (seat (m .table) o) i (delivered p h (recordAt (usedOf m) i)) noRecord within marks-same (k .tied o l g))
+
+  pub but-marked : KeptBut leader p after
+  but-marked =
+      let c = committeeOf m in
+      let F : Wire → Type 0 = λ ws. Facts c leader ws in
+      let M : Wire → Type 0 = λ ws. Matches (m .signed) ws in
+      record {
+        facts = subst F (sym is) (facts-set c leader (usedOf m) i (delivered p h (recordAt (usedOf m) i)) noRecord within marks-same (k .facts));
+        tied = λ o l g _. tied-marked o l g;
+        capped = λ o l g n rests w.
+            let C : Wire → Type 0 = λ ws. countTo (heardOf ws o w) 31 < weakQuorumOf c in
+            subst C (sym is)
+            (omega (arith, k .capped o l g rests w, count-same (heardOf ms o w) (heardOf (usedOf m) o w) 31 (λ q _. heard-other (usedOf m) i noRecord within p small h o w q n)));
+        signed = subst M (sym is)
+            (λ q s. k .signed q s ∙ sym (set-signs (usedOf m) i (delivered p h (recordAt (usedOf m) i)) noRecord within marks-same q s));
+        used = omega (arith, k .used, length-set (m .wire) i (delivered p h (recordAt (m .wire) i)));
+        seats = k .seats;
+      }
