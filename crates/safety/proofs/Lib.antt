@@ -10,3 +10,4 @@ pub mod Certifying
 pub mod Appending
 pub mod Marking
 pub mod Keeping
+pub mod Claiming
