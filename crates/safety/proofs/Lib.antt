@@ -11,3 +11,4 @@ pub mod Appending
 pub mod Marking
 pub mod Keeping
 pub mod Claiming
+pub mod Hearing
