@@ -12,3 +12,4 @@ pub mod Marking
 pub mod Keeping
 pub mod Claiming
 pub mod Hearing
+pub mod Receiving
