@@ -13,3 +13,4 @@ pub mod Keeping
 pub mod Claiming
 pub mod Hearing
 pub mod Receiving
+pub mod Deliveries
