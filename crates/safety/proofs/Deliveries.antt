@@ -6,13 +6,14 @@ use mathlib.Core.Logic.{_⊎_, inl, inr}
 use Prim.Native.Nat.{ℕ, _+_, _-_, _≤_, _<_}
 use native.Mathlib.Omega.{arith}
 use lib.Dec.{eqb, leb, ltb}
-use lib.ListN.{length, getD, take}
+use lib.ListN.{length, set}
 use lib.Seq.{length-take-le, getD-take}
 use Rattle.std.specs.declared.option.Option.the-variants.{Some, None}
 use Rattle.std.specs.declared.result.Result.the-variants.{Ok, Err}
 use Rattle.std.proofs.shelf.Tests.{cond-both, and-parts, or-cases, eqb-true, ltb-true, leb-true}
 use Rattle.committee.specs.declared.membership.Committee.{Committee}
 use Rattle.committee.specs.Thresholds.{quorumOf}
+use Rattle.register.specs.declared.pair.Statement.{Statement}
 use Rattle.wire.specs.declared.kind.Kind.{Kind}
 use Rattle.wire.specs.declared.kind.Kind.the-variants.{EpochCompleted, EnterEpoch, ViewChange, Prepare, PrepareVote, Precommit, PrecommitVote, Commit, CommitVote, Decide}
 use Rattle.wire.specs.declared.vouch.Vouch.the-variants.{Nothing}
@@ -27,7 +28,7 @@ use Rattle.protocol.specs.declared.process.Process.{Process}
 use Rattle.protocol.specs.declared.board.Setting.{Setting}
 use Rattle.protocol.specs.declared.step.Step.{Step}
 use Rattle.protocol.specs.Processes.{running, mark, with-core}
-use Rattle.protocol.specs.Moments.{Moment, received, recordAt, noRecord}
+use Rattle.protocol.specs.Moments.{Moment, received, delivered, recordAt, noRecord}
 use Rattle.protocol.specs.Plans.{seat, usedOf, asked, fromSenders}
 use Rattle.protocol.specs.Sending.{toOne}
 use Rattle.protocol.specs.Steps.{drops, heeds, acts, acts-with}
@@ -191,4 +192,46 @@ module _ (leader : ℕ → ℕ) (m : Moment) (k : Kept leader m) (p i : ℕ) (me
           (leader-ready c leader ws p q tie member Prepare (r .number) x (b .view) w (inl refl) (sym mine) one (λ h. omega (arith, h .prepare refl .1 view)))
           (leader-tied c leader ws p q tie member Prepare (r .number) x (b .view) 1 x w (inl refl) (omega arith) (past-7 u (r .number) (omega (arith, view), λ _. omega arith))))
         (λ _. heeded))
+      (λ _. dropped)
+
+  -- ---- the synchronizer
+
+  inside : i < length (usedOf m)
+  inside = rw (length-take-le (m .table .used) (m .wire) (k .used)) below
+
+  same-record : recordAt (usedOf m) i ≡ r
+  same-record = getD-take (m .table .used) (m .wire) i noRecord below
+
+  -- what a quorum had signed, it has signed on the marked wire
+  marked-quorum : (s : Statement) → Quorum c (usedOf m) s → Quorum c ws s
+  marked-quorum s h =
+      let z = delivered p true (recordAt (usedOf m) i) in
+      let P : Wire → Type 0 = λ vs. Quorum c vs s in
+      subst P (sym (used-marked (m .wire) (m .table .used) i p true below))
+      (quorum-more c (usedOf m) (set (usedOf m) i z) (below-set (usedOf m) i z noRecord inside (delivered-same p true (recordAt (usedOf m) i))) s h)
+
+  pub completed-kept : r .kind ≡ EpochCompleted → Keeps (onEpochCompleted (m .table .setting) q r (fromSenders (asked p r None) (r .sender) (usedOf m)))
+  completed-kept kind =
+      cond-both (leb (q .synchronizer .epoch) (r .number) && leb (quorumOf c) (fromSenders (asked p r None) (r .sender) (usedOf m))) _ (heeds q) Keeps
+      (λ e.
+        let b = and-parts (leb (q .synchronizer .epoch) (r .number)) _ e in
+        let up = leb-true (q .synchronizer .epoch) (r .number) (b .0) in
+        let P : Record → Type 0 = λ x. x .kind ≡ EpochCompleted → quorumOf c ≤ fromSenders (asked p x None) (x .sender) (usedOf m) → Quorum c (usedOf m) (statement 3 (x .number) 0) in
+        let quorum = marked-quorum (statement 3 (r .number) 0)
+        (subst P same-record (completed-quorum c (usedOf m) p i noRecord inside) kind (leb-true (quorumOf c) _ (b .1))) in
+        keep-acts leader m k p i member ok below free (awaiting (m .table .setting) q (r .number + 1)) runs
+        (await-tied (m .table .setting) leader ws p q tie member (r .number + 1) (omega arith)
+         (λ j _ n. let Q : ℕ → Type 0 = λ x. Quorum c ws (statement 3 x 0) in subst Q (let z : r .number ≡ j = omega arith in z) quorum)))
+      (λ _. heeded)
+
+  pub entered-kept : r .kind ≡ EnterEpoch → Keeps (onEnterEpoch (m .table .setting) q r holds)
+  entered-kept kind =
+      cond-both (ltb (q .synchronizer .epoch) (r .number) && holds) _ (drops q) Keeps
+      (λ e.
+        let b = and-parts (ltb (q .synchronizer .epoch) (r .number)) holds e in
+        let up = ltb-true (q .synchronizer .epoch) (r .number) (b .0) in
+        let quorum = quorum-claimed (m .signed) ws signed c r EnterEpoch (statement 3 (r .number - 1) 0) kind refl (b .1) in
+        keep-acts leader m k p i member ok below free (awaiting (m .table .setting) q (r .number)) runs
+        (await-tied (m .table .setting) leader ws p q tie member (r .number) up
+         (λ j _ n. let Q : ℕ → Type 0 = λ x. Quorum c ws (statement 3 x 0) in subst Q (let z : r .number - 1 ≡ j = omega arith in z) quorum)))
       (λ _. dropped)

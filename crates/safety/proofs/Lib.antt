@@ -14,3 +14,4 @@ pub mod Claiming
 pub mod Hearing
 pub mod Receiving
 pub mod Deliveries
+pub mod Disclosures
