@@ -15,3 +15,5 @@ pub mod Hearing
 pub mod Receiving
 pub mod Deliveries
 pub mod Disclosures
+pub mod Fitting
+pub mod Moves
