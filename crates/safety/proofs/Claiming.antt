@@ -50,9 +50,11 @@ module _ (z : Signed) (ws : Wire) (e : Matches z ws) where
   pub prepared-earlier : (c : Committee) (v b x : ℕ) → claimHolds (prepared c v b x) (z .has) ≡ true → (b < v) × Quorum c ws (statement 4 b x)
   prepared-earlier c v b x h =
       elim (cases-lt b v) [
-        | inl l ↦
-            (l, signed-enough (statement 4 b x) (quorumOf c)
-             (ap (λ (k : Claim). claimHolds k (z .has)) (sym (cond-true (ltb b v) (claim.Signed (statement 4 b x) (quorumOf c)) claim.Never (lt-ltb b v l))) ∙ h))
+        | inl l ↦ (
+          l,
+          signed-enough (statement 4 b x) (quorumOf c)
+              (ap (λ (k : Claim). claimHolds k (z .has)) (sym (cond-true (ltb b v) (claim.Signed (statement 4 b x) (quorumOf c)) claim.Never (lt-ltb b v l))) ∙ h),
+        )
         | inr l ↦
             absurd (false≢true (ap (λ (k : Claim). claimHolds k (z .has)) (sym (cond-false (ltb b v) (claim.Signed (statement 4 b x) (quorumOf c)) claim.Never (le-ltb b v l))) ∙ h))
       ]
@@ -102,7 +104,7 @@ unfolding signs
 completes q e r a b n =
     and-from _ _ (eq-eqb (r .sender) q a)
     (ap (λ (k : Kind). isShare (shareBy k (r .number) (r .value)) (statement 3 e 0)) b
-     ∙ ap (λ (m : ℕ). sameStatement (statement 3 m 0) (statement 3 e 0)) n ∙ same-self (statement 3 e 0))
+    ∙ ap (λ (m : ℕ). sameStatement (statement 3 m 0) (statement 3 e 0)) n ∙ same-self (statement 3 e 0))
 
 any-at : {X : Type 0} (t : X → Bool) (xs : List X) (i : ℕ) (d : X) → i < length xs → t (getD xs i d) ≡ true → any t xs ≡ true
 unfolding any
@@ -117,16 +119,16 @@ completed-quorum c ws p i d l kind enough =
     let h = asked p r None in
     le-trans enough
     (sum-le (λ q. cond (eqb (r .sender) q || seen (λ x. x .sender) (isHeeded h) ws q) 1 0) (λ q. cond (any (signs q (statement 3 (r .number) 0)) ws) 1 0) 31
-     (λ q _. test-le (eqb (r .sender) q || seen (λ x. x .sender) (isHeeded h) ws q) (any (signs q (statement 3 (r .number) 0)) ws)
-       (λ e. elim (or-cases (eqb (r .sender) q) (seen (λ x. x .sender) (isHeeded h) ws q) e) [
-         | inl j ↦ any-at (signs q (statement 3 (r .number) 0)) ws i d l (completes q (r .number) r (eqb-true (r .sender) q j) kind refl)
-         | inr j ↦
-             any-from (λ x. Unit {0}) (λ x. eqb (x .sender) q && isHeeded h x) (signs q (statement 3 (r .number) 0)) ws (all-unit ws)
-             (λ x _ t.
-               let a = and-parts (eqb (x .sender) q) (isHeeded h x) t in
-               let b = and-parts _ _ (a .1) in
-               let g = and-parts (eqb (kindNumber (x .kind)) (kindNumber (r .kind))) _ (b .1) in
-               let n = and-parts (eqb (x .number) (r .number)) _ (g .1) in
-               completes q (r .number) x (eqb-true (x .sender) q (a .0))
-               (completed-kind (x .kind) (eqb-true (kindNumber (x .kind)) (kindNumber (r .kind)) (g .0) ∙ ap kindNumber kind)) (eqb-true (x .number) (r .number) (n .0))) j
-       ])))
+    (λ q _. test-le (eqb (r .sender) q || seen (λ x. x .sender) (isHeeded h) ws q) (any (signs q (statement 3 (r .number) 0)) ws)
+    (λ e. elim (or-cases (eqb (r .sender) q) (seen (λ x. x .sender) (isHeeded h) ws q) e) [
+      | inl j ↦ any-at (signs q (statement 3 (r .number) 0)) ws i d l (completes q (r .number) r (eqb-true (r .sender) q j) kind refl)
+      | inr j ↦
+          any-from (λ x. Unit {0}) (λ x. eqb (x .sender) q && isHeeded h x) (signs q (statement 3 (r .number) 0)) ws (all-unit ws)
+          (λ x _ t.
+          let a = and-parts (eqb (x .sender) q) (isHeeded h x) t in
+          let b = and-parts _ _ (a .1) in
+          let g = and-parts (eqb (kindNumber (x .kind)) (kindNumber (r .kind))) _ (b .1) in
+          let n = and-parts (eqb (x .number) (r .number)) _ (g .1) in
+          completes q (r .number) x (eqb-true (x .sender) q (a .0))
+          (completed-kind (x .kind) (eqb-true (kindNumber (x .kind)) (kindNumber (r .kind)) (g .0) ∙ ap kindNumber kind)) (eqb-true (x .number) (r .number) (n .0))) j
+    ])))

@@ -89,9 +89,12 @@ module _ (leader : ℕ → ℕ) (m : Moment) (k : Kept leader m) (p i : ℕ) (me
       let silent : (o : ℕ) → sends o 1 0 w (recordAt (usedOf m) i) ≡ false
       = λ o. not-any _ (λ e. n (ap (λ (x : Record). kindNumber (x .kind)) (sym same-record) ∙ sends-parts o 1 0 w (recordAt (usedOf m) i) e .1)) in
       subst C (sym is)
-      (omega (arith, k .capped p member ok rests w,
-       count-same (heardOf (set (usedOf m) i (delivered p true (recordAt (usedOf m) i))) p w) (heardOf (usedOf m) p w) 31
-       (λ o _. heard-else (usedOf m) i noRecord inside p few true p w o (silent o))))
+      (omega (
+        arith,
+        k .capped p member ok rests w,
+        count-same (heardOf (set (usedOf m) i (delivered p true (recordAt (usedOf m) i))) p w) (heardOf (usedOf m) p w) 31
+            (λ o _. heard-else (usedOf m) i noRecord inside p few true p w o (silent o)),
+      ))
 
   pub allow-any-kept : r .kind ≡ AllowAny → (from : ℕ) → Keeps (onAllowAny (m .table .setting) q p from (leader 1))
   allow-any-kept kind from =
@@ -137,16 +140,16 @@ module _ (leader : ℕ → ℕ) (m : Moment) (k : Kept leader m) (p i : ℕ) (me
         let z = q .certification in
         cond-both (leb (weakQuorumOf c) same) _ _ Keeps (λ _. begins-kept (r .value) (r .value) Disclosed)
         (λ low.
-          let few-same : same < weakQuorumOf c = leb-false (weakQuorumOf c) same low in
-          cond-both (leb (disclosureQuorumOf c) total && not (z .allowed)) _ (heeds q) Keeps
-          (λ e.
-            let b = and-parts (leb (disclosureQuorumOf c) total) _ e in
-            let F : Record → Type 0 = λ x. disclosureQuorumOf c ≤ fromSenders (asked p x None) (x .sender) (usedOf m) in
-            let H : Wire → Type 0 = λ vs. disclosureQuorumOf c ≤ countTo (heard vs p) 31 in
-            let many : disclosureQuorumOf c ≤ countTo (heard ws p) 31
-            = subst H (sym is) (omega (arith, counted-heard (usedOf m) i noRecord inside p few kind-1 number-0, subst F (sym same-record) (leb-true (disclosureQuorumOf c) total (b .0)))) in
-            let g = allow-ready s leader ws p q tie member (not-true _ (b .1)) (λ w. differ c ws p w many (heard-few few-same w)) in
-            let u = with-certification (certification-of (z .phase) (z .proposal) (z .offer) (z .vouch) true) q in
-            let a = toAll c p AllowAny 0 0 in
-            keep leader m k p i member ok below free (acts-with u a) (sendable c leader ws p a g, λ _. allow-tied s leader ws p q tie member) (λ _. heard-few few-same))
-          (λ _. keep leader m k p i member ok below free (heeds q) (λ _. tie) (λ _. heard-few few-same)))
+        let few-same : same < weakQuorumOf c = leb-false (weakQuorumOf c) same low in
+        cond-both (leb (disclosureQuorumOf c) total && not (z .allowed)) _ (heeds q) Keeps
+        (λ e.
+        let b = and-parts (leb (disclosureQuorumOf c) total) _ e in
+        let F : Record → Type 0 = λ x. disclosureQuorumOf c ≤ fromSenders (asked p x None) (x .sender) (usedOf m) in
+        let H : Wire → Type 0 = λ vs. disclosureQuorumOf c ≤ countTo (heard vs p) 31 in
+        let many : disclosureQuorumOf c ≤ countTo (heard ws p) 31
+        = subst H (sym is) (omega (arith, counted-heard (usedOf m) i noRecord inside p few kind-1 number-0, subst F (sym same-record) (leb-true (disclosureQuorumOf c) total (b .0)))) in
+        let g = allow-ready s leader ws p q tie member (not-true _ (b .1)) (λ w. differ c ws p w many (heard-few few-same w)) in
+        let u = with-certification (certification-of (z .phase) (z .proposal) (z .offer) (z .vouch) true) q in
+        let a = toAll c p AllowAny 0 0 in
+        keep leader m k p i member ok below free (acts-with u a) (sendable c leader ws p a g, λ _. allow-tied s leader ws p q tie member) (λ _. heard-few few-same))
+        (λ _. keep leader m k p i member ok below free (heeds q) (λ _. tie) (λ _. heard-few few-same)))

@@ -55,7 +55,6 @@ module _ (f : ℕ) (q : Process) (fits : processFits f q ≡ true) where
       record { epoch = eqb-true _ 0 (a .0); view = eqb-true _ 0 (d .0); due = eqb-true _ 0 (e .0); spread = eqb-true _ 0 (e .1) }
 
 module _ (n : ℕ) (m : Moment) (fits : boardFits n m ≡ true) where
-
   pub size-is : n ≡ committeeOf m .n
   size-is = eqb-true n (committeeOf m .n) (and-parts (eqb n (committeeOf m .n)) _ fits .0)
 

@@ -68,21 +68,21 @@ module _ (ws : Wire) (i : ℕ) (d : Record) (l : i < length ws) (p : ℕ) (small
       let h = asked p r (Some (r .value)) in
       sum-le (λ q. cond (heardOf (set ws i z) p (r .value) q) 1 0) (λ q. cond (eqb (r .sender) q || seen (λ x. x .sender) (isHeeded h) ws q) 1 0) 31
       (λ q _. test-le (heardOf (set ws i z) p (r .value) q) (eqb (r .sender) q || seen (λ x. x .sender) (isHeeded h) ws q)
-        (λ e. elim (any-set-cases (λ x. contains (x .heeded) p && sends q 1 0 (r .value) x) ws i z e) [
-          | inl a ↦
-              or-right (eqb (r .sender) q) _
-              (any-from (λ x. Unit {0}) (λ x. contains (x .heeded) p && sends q 1 0 (r .value) x) (λ x. eqb (x .sender) q && isHeeded h x) ws (all-unit ws)
-               (λ x _ t.
-                 let b = and-parts (contains (x .heeded) p) _ t in
-                 let s = sends-parts q 1 0 (r .value) x (b .1) in
-                 and-from _ _ (eq-eqb (x .sender) q (s .0))
-                 (and-from _ _ (b .0)
-                  (and-from _ _ (eq-eqb (kindNumber (x .kind)) (kindNumber (r .kind)) (s .1 ∙ sym kind))
-                   (and-from _ _ (eq-eqb (x .number) (r .number) (s .2 ∙ sym number)) (eq-eqb (x .value) (r .value) (s .3)))))) a)
-          | inr a ↦
-              let b = and-parts (contains (z .heeded) p) _ a in
-              or-left (eqb (r .sender) q) _ (eq-eqb (r .sender) q (sends-parts q 1 0 (r .value) z (b .1) .0))
-        ]))
+      (λ e. elim (any-set-cases (λ x. contains (x .heeded) p && sends q 1 0 (r .value) x) ws i z e) [
+        | inl a ↦
+            or-right (eqb (r .sender) q) _
+            (any-from (λ x. Unit {0}) (λ x. contains (x .heeded) p && sends q 1 0 (r .value) x) (λ x. eqb (x .sender) q && isHeeded h x) ws (all-unit ws)
+            (λ x _ t.
+            let b = and-parts (contains (x .heeded) p) _ t in
+            let s = sends-parts q 1 0 (r .value) x (b .1) in
+            and-from _ _ (eq-eqb (x .sender) q (s .0))
+            (and-from _ _ (b .0)
+            (and-from _ _ (eq-eqb (kindNumber (x .kind)) (kindNumber (r .kind)) (s .1 ∙ sym kind))
+            (and-from _ _ (eq-eqb (x .number) (r .number) (s .2 ∙ sym number)) (eq-eqb (x .value) (r .value) (s .3)))))) a)
+        | inr a ↦
+            let b = and-parts (contains (z .heeded) p) _ a in
+            or-left (eqb (r .sender) q) _ (eq-eqb (r .sender) q (sends-parts q 1 0 (r .value) z (b .1) .0))
+      ]))
 
   -- what it counts over all values, it has heard
   pub counted-heard : fromSenders (asked p r None) (r .sender) ws ≤ countTo (heard (set ws i z) p) 31
@@ -91,21 +91,21 @@ module _ (ws : Wire) (i : ℕ) (d : Record) (l : i < length ws) (p : ℕ) (small
       let mine : contains (z .heeded) p ≡ true = with-contains (r .heeded) p p small ∙ or-right (contains (r .heeded) p) (eqb p p) (eq-eqb p p refl) in
       sum-le (λ q. cond (eqb (r .sender) q || seen (λ x. x .sender) (isHeeded h) ws q) 1 0) (λ q. cond (heard (set ws i z) p q) 1 0) 31
       (λ q _. test-le (eqb (r .sender) q || seen (λ x. x .sender) (isHeeded h) ws q) (heard (set ws i z) p q)
-        (λ e. elim (or-cases (eqb (r .sender) q) _ e) [
-          | inl a ↦
-              any-set-here (λ x. contains (x .heeded) p && posts q 1 0 x) ws i z l (and-from _ _ mine (posts-from q 1 0 z (eqb-true (r .sender) q a) kind number))
-          | inr a ↦
-              any-set-more (λ x. contains (x .heeded) p && posts q 1 0 x) ws i z d l
-              (λ t. let b = and-parts (contains (r .heeded) p) _ t in let s = posts-parts q 1 0 r (b .1) in and-from _ _ mine (posts-from q 1 0 z (s .0) (s .1) (s .2)))
-              (any-from (λ x. Unit {0}) (λ x. eqb (x .sender) q && isHeeded h x) (λ x. contains (x .heeded) p && posts q 1 0 x) ws (all-unit ws)
-               (λ x _ t.
-                 let b = and-parts (eqb (x .sender) q) (isHeeded h x) t in
-                 let g = and-parts (contains (x .heeded) p) _ (b .1) in
-                 let k = and-parts (eqb (kindNumber (x .kind)) (kindNumber (r .kind))) _ (g .1) in
-                 let n = and-parts (eqb (x .number) (r .number)) _ (k .1) in
-                 and-from _ _ (g .0)
-                 (posts-from q 1 0 x (eqb-true (x .sender) q (b .0)) (eqb-true (kindNumber (x .kind)) (kindNumber (r .kind)) (k .0) ∙ kind) (eqb-true (x .number) (r .number) (n .0) ∙ number))) a)
-        ]))
+      (λ e. elim (or-cases (eqb (r .sender) q) _ e) [
+        | inl a ↦
+            any-set-here (λ x. contains (x .heeded) p && posts q 1 0 x) ws i z l (and-from _ _ mine (posts-from q 1 0 z (eqb-true (r .sender) q a) kind number))
+        | inr a ↦
+            any-set-more (λ x. contains (x .heeded) p && posts q 1 0 x) ws i z d l
+            (λ t. let b = and-parts (contains (r .heeded) p) _ t in let s = posts-parts q 1 0 r (b .1) in and-from _ _ mine (posts-from q 1 0 z (s .0) (s .1) (s .2)))
+            (any-from (λ x. Unit {0}) (λ x. eqb (x .sender) q && isHeeded h x) (λ x. contains (x .heeded) p && posts q 1 0 x) ws (all-unit ws)
+            (λ x _ t.
+            let b = and-parts (eqb (x .sender) q) (isHeeded h x) t in
+            let g = and-parts (contains (x .heeded) p) _ (b .1) in
+            let k = and-parts (eqb (kindNumber (x .kind)) (kindNumber (r .kind))) _ (g .1) in
+            let n = and-parts (eqb (x .number) (r .number)) _ (k .1) in
+            and-from _ _ (g .0)
+            (posts-from q 1 0 x (eqb-true (x .sender) q (b .0)) (eqb-true (kindNumber (x .kind)) (kindNumber (r .kind)) (k .0) ∙ kind) (eqb-true (x .number) (r .number) (n .0) ∙ number))) a)
+      ]))
 
   -- of another value it has heard no more than before
   pub heard-of-others : (w : ℕ) → (w ≡ r .value → ⊥) → countTo (heardOf (set ws i z) p w) 31 ≡ countTo (heardOf ws p w) 31

@@ -17,3 +17,4 @@ pub mod Deliveries
 pub mod Disclosures
 pub mod Fitting
 pub mod Moves
+pub mod Calls

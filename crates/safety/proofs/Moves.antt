@@ -88,7 +88,7 @@ module _ (leader : ℕ → ℕ) (m : Moment) (k : Kept leader m) (p i : ℕ) (le
         (sym (ap (λ (x : Bool). x && ltb (q .core .view) (r .number)) h) ∙ ap (λ (x : Kind). ofOneView x && ltb (q .core .view) (r .number)) (sym e) ∙ near) in
         let down = ltb-false (r .number) (q .core .view)
         (sym (ap (λ (x : Bool). x && ltb (r .number) (q .core .view)) h) ∙ ap (λ (x : Kind). ofOneView x && ltb (r .number) (q .core .view)) (sym e)
-         ∙ or-parts (leb (kindNumber (r .kind)) 3 && running (q .certification .phase)) _ fresh .1) in
+        ∙ or-parts (leb (kindNumber (r .kind)) 3 && running (q .certification .phase)) _ fresh .1) in
         omega arith
 
     late : (j : Kind) → r .kind ≡ j → 4 ≤ kindNumber j → 1 ≤ r .number
@@ -138,15 +138,15 @@ deliver-kept leader n room m p i k leads =
     let r = recordAt (m .wire) i in
     known-kept P n m p _ (λ _. k)
     (λ fits member.
-      let led : (v : ℕ) → leader v < committeeOf m .n = λ v. omega (arith, leads v, size-is n m fits) in
-      cond-both (undeliverable m p i) _ _ P (λ _. k)
-      (λ there.
-        let below : i < m .table .used = leb-false (m .table .used) i (or-parts (leb (m .table .used) i) _ there .0) in
-        cond-both (isFaulty m p) _ _ P (λ bad. faulty-kept leader m k p i led member bad below)
-        (λ good.
-          let ok = correct m p good in
-          cond-both (untimely (r .kind) (q .certification .phase)) _ _ P (λ _. k)
-          (λ timely. cond-both (ofOneView (r .kind) && ltb (q .core .view) (r .number)) _ _ P (λ _. k)
-            (λ near. roomy-kept P room m _ (λ _. k)
-              (λ free. cond-both (stale q r) _ _ P (λ _. keep-drop leader m k p i member ok below free)
-                (λ fresh. ruled-kept leader m k p i led member (seat-fits n m fits p member (k .seats)) (record-formed n m fits i below) ok below free timely near fresh (r .kind) refl)))))))
+    let led : (v : ℕ) → leader v < committeeOf m .n = λ v. omega (arith, leads v, size-is n m fits) in
+    cond-both (undeliverable m p i) _ _ P (λ _. k)
+    (λ there.
+    let below : i < m .table .used = leb-false (m .table .used) i (or-parts (leb (m .table .used) i) _ there .0) in
+    cond-both (isFaulty m p) _ _ P (λ bad. faulty-kept leader m k p i led member bad below)
+    (λ good.
+    let ok = correct m p good in
+    cond-both (untimely (r .kind) (q .certification .phase)) _ _ P (λ _. k)
+    (λ timely. cond-both (ofOneView (r .kind) && ltb (q .core .view) (r .number)) _ _ P (λ _. k)
+    (λ near. roomy-kept P room m _ (λ _. k)
+    (λ free. cond-both (stale q r) _ _ P (λ _. keep-drop leader m k p i member ok below free)
+    (λ fresh. ruled-kept leader m k p i led member (seat-fits n m fits p member (k .seats)) (record-formed n m fits i below) ok below free timely near fresh (r .kind) refl)))))))

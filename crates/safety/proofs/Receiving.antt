@@ -70,11 +70,14 @@ module _ (leader : ℕ → ℕ) (m : Moment) (k : Kept leader m) (p i : ℕ) (me
   keep-drop =
       keep (drops q) (λ _. tied-at false)
       (λ rests w.
-        let C : Wire → Type 0 = λ ws. countTo (heardOf ws p w) 31 < weakQuorumOf c in
-        let inside : i < length (usedOf m) = rw (length-take-le (m .table .used) (m .wire) (k .used)) below in
-        subst C (sym (used-marked (m .wire) (m .table .used) i p false below))
-        (omega (arith, k .capped p member ok rests w,
-         count-same _ (heardOf (usedOf m) p w) 31 (λ o _. heard-unheeded (usedOf m) i noRecord inside p small p w o))))
+      let C : Wire → Type 0 = λ ws. countTo (heardOf ws p w) 31 < weakQuorumOf c in
+      let inside : i < length (usedOf m) = rw (length-take-le (m .table .used) (m .wire) (k .used)) below in
+      subst C (sym (used-marked (m .wire) (m .table .used) i p false below))
+      (omega (
+        arith,
+        k .capped p member ok rests w,
+        count-same _ (heardOf (usedOf m) p w) 31 (λ o _. heard-unheeded (usedOf m) i noRecord inside p small p w o),
+      )))
 
   -- steps of a running process
   pub keep-heed : running (q .certification .phase) ≡ true → Kept leader (received (Ok (heeds q)) p i m)
