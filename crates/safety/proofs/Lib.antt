@@ -18,3 +18,5 @@ pub mod Disclosures
 pub mod Fitting
 pub mod Moves
 pub mod Calls
+pub mod Deciding
+pub mod Running
