@@ -38,7 +38,7 @@ use Rattle.agreement.proofs.Growth.{facts-none}
 use Rattle.agreement.proofs.Safety.{agreement}
 use Rattle.safety.specs.Ties.{Tied}
 use Rattle.safety.specs.Kept.{committeeOf, Matches, Kept}
-use Rattle.safety.specs.Promises.{isMember, hasDecided, hasProposed, Promise, Promises}
+use Rattle.safety.specs.Promises.{isMember, hasDecided, hasProposed, Epoch-order, Agreement, Promise, Promises}
 use Rattle.safety.proofs.Moves.{deliver-kept}
 use Rattle.safety.proofs.Calls.{tick-kept, propose-kept, expire-kept, inject-kept}
 use Rattle.safety.proofs.Deciding.{tick-leaves, propose-leaves, expire-leaves, deliver-leaves, inject-leaves, played-decided, received-decided}
@@ -116,3 +116,84 @@ module _ {R G : Type 0} (ρ : RotaMeans R) (γ : RegisterMeans G) (law : (r : R)
 
   run-kept : (b : Sitting R G) → Run ρ γ b → Kept (leads b) (momentOf γ b)
   run-kept b run = onward-kept (run .start) b (run .onward) (new-kept (run .start) (run .new))
+
+  -- ---- decisions stay
+
+  makes-decided : {plan : Result Step Refusal} {m : Moment} {r : Result Answer Refusal} (a b : Sitting R G) (o x : ℕ) → Makes γ plan m a b r → hasDecided (m .table) o x → hasDecided (b .board .table) o x
+  makes-decided a b o x y k =
+      let D : Moment → Type 0 = λ m. hasDecided (m .table) o x in
+      subst D (sym (y .after)) k
+
+  move-decided : (a b : Sitting R G) (o x : ℕ) → Move ρ γ a b → Kept (leads a) (momentOf γ a) → o < 31 → hasDecided (a .board .table) o x → hasDecided (b .board .table) o x
+  move-decided a b o x move kept short k = go move
+    where
+      m : Moment
+      m = momentOf γ a
+
+      lt : o < length (m .table .processes)
+      lt = omega (arith, short, kept .seats)
+
+      go : Move ρ γ a b → hasDecided (b .board .table) o x
+      go (ticks p t r y) = makes-decided a b o x y (k .0, played-decided _ p o x m lt (tick-leaves _ m p t) (k .0) (k .1))
+      go (proposes p z r y) = makes-decided a b o x y (k .0, played-decided _ p o x m lt (propose-leaves _ _ m p z) (k .0) (k .1))
+      go (expires p t r y) = makes-decided a b o x y (k .0, played-decided _ p o x m lt (expire-leaves (leads a) _ _ m p t) (k .0) (k .1))
+      go (delivers i p r y) = makes-decided a b o x y (k .0, received-decided _ p i o x m lt (deliver-leaves (leads a) _ _ m p i) (k .0) (k .1))
+      go (injects p d r y) = makes-decided a b o x y (k .0, played-decided _ p o x m lt (inject-leaves _ _ m p d) (k .0) (k .1))
+
+  onward-decided : (a b : Sitting R G) (o x : ℕ) → Onward ρ γ a b → Kept (leads a) (momentOf γ a) → o < 31 → hasDecided (a .board .table) o x → hasDecided (b .board .table) o x
+  onward-decided a b o x here kept short k = k
+  onward-decided a b o x (then {b = d} n y) kept short k = move-decided d b o x y (onward-kept a d n kept) short (onward-decided a d o x n kept short k)
+
+  -- ---- the promises
+
+  module _ (b : Sitting R G) (kept : Kept (leads b) (momentOf γ b)) where
+    abbrev now : Moment
+    now = momentOf γ b
+
+    abbrev council : Committee
+    council = committeeOf now
+
+    abbrev ws : Wire
+    ws = usedOf now
+
+    safe : Safe council (leads b) ws
+    safe = agreement council (leads b) ws (kept .facts)
+
+    order : Epoch-order council (now .table) ws
+    order p e is one at =
+        let s = safe .epochs e (kept .tied p (is .0) (is .1) .reached e one at) in
+        (s .0, s .1, λ o i. let z = s .2 o i in ((z .1, z .0), z .2, z .3))
+
+    agreed : Agreement council (now .table)
+    agreed p o x y ip io dp do' =
+        let cp = kept .tied p (ip .0) (ip .1) .chosen (omega (arith, dp .0, dp .1)) in
+        let co = kept .tied o (io .0) (io .1) .chosen (omega (arith, do' .0, do' .1)) in
+        sym (dp .1) ∙ safe .decided (cp .0) (co .0) _ _ (cp .1) (co .1) ∙ do' .1
+
+    proposed : (o y : ℕ) → Correct council o → Sent ws o 1 0 y → isMember council o × hasProposed (now .table) o y
+    proposed o y right sent =
+        let lt : o < council .n
+        = any-gives (Formed council) (o < council .n) (sends o 1 0 y) ws (kept .facts .formed) (λ r formed e. omega (arith, formed .sender, sends-parts o 1 0 y r e .0)) sent in
+        let tied = kept .tied o lt right in
+        ((lt, right), (tied .past 1 0 (sent-posted ws o 1 0 y sent) .disclosed refl, sym (tied .told y sent)))
+
+    shared : (w : ℕ) → ((o x : ℕ) → isMember council o → hasProposed (now .table) o x → x ≡ w) → (p x : ℕ) → isMember council p → hasDecided (now .table) p x → x ≡ w
+    shared w all p x is d =
+        let chosen = kept .tied p (is .0) (is .1) .chosen (omega (arith, d .0, d .1)) in
+        sym (d .1) ∙ safe .sound (chosen .0) _ w (λ o y right sent. let z = proposed o y right sent in all o y (z .0) (z .1)) (chosen .1)
+
+    promise : Promise ρ γ b
+    promise =
+        record {
+          order = order;
+          agreement = agreed;
+          unanimity = record {
+            shared = shared;
+            unproposed = λ none p x is d. let e = shared (x + 1) (λ o y io po. absurd (none o y io po)) p x is d in absurd (omega (arith, e));
+          };
+          words = record { certification = safe .first; epoch = safe .each };
+          stable = λ d onward p x is k. onward-decided b d p x onward kept (omega (arith, is .0, council .whole, council .high)) k;
+        }
+
+  pub promises : Promises ρ γ
+  promises b run = promise b (run-kept b run)
