@@ -20,3 +20,4 @@ pub mod Moves
 pub mod Calls
 pub mod Deciding
 pub mod Running
+pub mod Witnessing

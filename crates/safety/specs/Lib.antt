@@ -1,3 +1,4 @@
 pub mod Ties
 pub mod Kept
 pub mod Promises
+pub mod Witnesses
