@@ -1,25 +1,20 @@
 -- ALLOW-ANY: who has heeded the disclosures that it takes, and of no value those of a weak quorum, knows that the correct ones differ.
 -- Assumes nothing.
 use mathlib.Core.Path.{_≡_, refl}
-use mathlib.Core.Bool.{Bool, true, false, cond, _&&_}
+use mathlib.Core.Bool.{Bool, true, cond, _&&_}
 use Prim.Native.Nat.{ℕ, _≤_, _<_}
 use native.Mathlib.Omega.{arith}
 use native.Mathlib.Nat.{le-trans}
-use lib.Dec.{eqb}
-use Rattle.std.specs.declared.option.Option.the-variants.{Some, None}
 use Rattle.std.proofs.shelf.Tests.{and-parts, and-from}
 use Rattle.counting.specs.Counts.{any, countTo}
-use Rattle.counting.proofs.Sums.{sum-le, count-same}
+use Rattle.counting.proofs.Sums.{sum-le}
 use Rattle.committee.specs.declared.membership.Committee.{Committee}
 use Rattle.committee.specs.Sets.{contains}
 use Rattle.committee.specs.Thresholds.{quorumOf, weakQuorumOf, disclosureQuorumOf, isCorrect}
 use Rattle.committee.proofs.Quorums.{many-correct}
-use Rattle.wire.specs.declared.kind.Kind.the-variants.{Disclose}
 use Rattle.wire.specs.declared.record.Record.{Record}
-use Rattle.wire.specs.Kinds.{kindNumber}
-use Rattle.wire.specs.Heeding.{sendersOf}
 use Rattle.agreement.specs.Wires.{Wire, Correct, Sent, sends, posts, heard, heardOf}
-use Rattle.agreement.proofs.Elements.{test-le, any-from, any-same, all-any}
+use Rattle.agreement.proofs.Elements.{test-le, any-from, all-any}
 use Rattle.agreement.proofs.Records.{posts-parts, sends-from}
 
 -- the disclosures that ALLOW-ANY takes are those of a quorum
@@ -50,33 +45,3 @@ pub differ : (c : Committee) (ws : Wire) (p w : ℕ)
     → disclosureQuorumOf c ≤ countTo (heard ws p) 31 → countTo (heardOf ws p w) 31 < weakQuorumOf c
     → ((q x : ℕ) → Correct c q → Sent ws q 1 0 x → x ≡ w) → ⊥
 differ c ws p w many few all = omega (arith, heard-weak c ws p w all many)
-
--- ---- what `senders` counts
-
-swapped-any : (s h k m : Bool) → (s && (h && (k && (m && true)))) ≡ (h && (s && (k && m)))
-swapped-any false false k m = refl
-swapped-any false true k m = refl
-swapped-any true false k m = refl
-swapped-any true true false m = refl
-swapped-any true true true false = refl
-swapped-any true true true true = refl
-
-swapped : (s h b : Bool) → (s && (h && b)) ≡ (h && (s && b))
-swapped false false b = refl
-swapped false true b = refl
-swapped true false b = refl
-swapped true true b = refl
-
-pub heard-senders : (ws : Wire) (p : ℕ) → sendersOf (record { by = p; kind = Disclose; number = 0; value = None }) ws ≡ countTo (heard ws p) 31
-unfolding posts
-heard-senders ws p =
-    count-same _ (heard ws p) 31
-    (λ q _. any-same _ (λ r. contains (r .heeded) p && posts q 1 0 r) ws
-    (λ r. swapped-any (eqb (r .sender) q) (contains (r .heeded) p) (eqb (kindNumber (r .kind)) 1) (eqb (r .number) 0)))
-
-pub heardOf-senders : (ws : Wire) (p w : ℕ) → sendersOf (record { by = p; kind = Disclose; number = 0; value = Some w }) ws ≡ countTo (heardOf ws p w) 31
-unfolding sends
-heardOf-senders ws p w =
-    count-same _ (heardOf ws p w) 31
-    (λ q _. any-same _ (λ r. contains (r .heeded) p && sends q 1 0 w r) ws
-    (λ r. swapped (eqb (r .sender) q) (contains (r .heeded) p) (eqb (kindNumber (r .kind)) 1 && (eqb (r .number) 0 && eqb (r .value) w))))

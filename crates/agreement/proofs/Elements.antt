@@ -45,12 +45,6 @@ module _ {X : Type 0} where
       elim (or-cases (s x) (any s xs) e)
       [ inl i ↦ or-left (t x) (any t xs) (h x (a .0) i) | inr i ↦ or-right (t x) (any t xs) (any-from P s t xs (a .1) h i) ]
 
-  -- two tests that agree
-  pub any-same : (s t : X → Bool) (xs : List X) → ((x : X) → s x ≡ t x) → any s xs ≡ any t xs
-  unfolding any
-  any-same s t [] h = refl
-  any-same s t (x ∷ xs) h = λ i. h x i || any-same s t xs h i
-
   module _ (t : X → Bool) where
     pub any-longer : (xs ys : List X) → any t xs ≡ true → any t (xs ++ ys) ≡ true
     any-longer xs ys e = any-append t xs ys ∙ or-left (any t xs) (any t ys) e

@@ -6,14 +6,7 @@ use Prim.Native.Nat.{ℕ, _+_, _<_}
 use lib.ListN.{length, getD, take}
 use Rattle.std.proofs.shelf.Lists.{take-more}
 use Rattle.counting.specs.Counts.{any}
-
-or-assoc : (a b c : Bool) → ((a || b) || c) ≡ (a || (b || c))
-or-assoc true b c = refl
-or-assoc false b c = refl
-
-or-false : (a : Bool) → (a || false) ≡ a
-or-false true = refl
-or-false false = refl
+use Rattle.counting.proofs.Booleans.{or-assoc, or-false}
 
 module _ {X : Type 0} (t : X → Bool) where
   pub any-append : (xs ys : List X) → any t (xs ++ ys) ≡ (any t xs || any t ys)
@@ -23,7 +16,7 @@ module _ {X : Type 0} (t : X → Bool) where
 
   pub any-push : (xs : List X) (x : X) → any t (xs ++ x ∷ []) ≡ (any t xs || t x)
   unfolding any
-  any-push xs x = any-append xs (x ∷ []) ∙ ap (λ (b : Bool). any t xs || b) (or-false (t x))
+  any-push xs x = any-append xs (x ∷ []) ∙ ap (λ (b : Bool). any t xs || b) (or-false (t x) false refl)
 
   -- one element further; x is the element as the code has read it
   pub any-more : (xs : List X) (i : ℕ) (x : X) → i < length xs → x ≡ getD xs i x → any t (take (i + 1) xs) ≡ (any t (take i xs) || t x)

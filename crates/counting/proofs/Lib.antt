@@ -1,3 +1,4 @@
+pub mod Booleans
 pub mod Sums
 pub mod Bits
 pub mod Any

@@ -46,7 +46,8 @@ fn better(best: Mark, counts: bool, rival: &Record) -> Mark
     }
 }
 
-fn best_of(records: &[Record], query: &Heeded, index: usize) -> Mark
+// The first largest backing among the records that are asked for, with the one at this place.
+fn best_backing(records: &[Record], query: &Heeded, index: usize) -> Mark
     ensures { λ r. ⌜ r ≡ bestBacking (now (query .entry)) index (now (records .entry)) ⌝ }
 {
     let mut best = Mark { view: 0, value: 0 };
@@ -54,11 +55,4 @@ fn best_of(records: &[Record], query: &Heeded, index: usize) -> Mark
         best = better(best, record.counts(query) | (i == index), record);
     }
     best
-}
-
-// The first largest backing among the records that are asked for, with the one at this place.
-fn best_backing(records: &[Record], query: &Heeded, index: usize) -> Mark
-    ensures { λ r. ⌜ r ≡ bestBacking (now (query .entry)) index (now (records .entry)) ⌝ }
-{
-    best_of(records, query, index)
 }

@@ -19,7 +19,7 @@ const LAST_DEADLINE: u64 = (1 << 40) + 3_000_000;
 
 const LAST_EPOCH: u32 = 65_535;
 
-const LONGEST: u32 = 1_000_000;
+const LONGEST_DURATION: u32 = 1_000_000;
 
 impl Process {
     // For a committee with this f.
@@ -83,8 +83,8 @@ impl Setting {
     fn in_range(&self) -> bool
         ensures { λ r. ⌜ r ≡ settingFits (now (self .entry)) ⌝ }
     {
-        ((1 <= self.delay) & (self.delay <= LONGEST))
-            & ((1 <= self.overlap) & (self.overlap <= LONGEST))
+        ((1 <= self.delay) & (self.delay <= LONGEST_DURATION))
+            & ((1 <= self.overlap) & (self.overlap <= LONGEST_DURATION))
     }
 }
 

@@ -1,4 +1,4 @@
-// A process of a board that is in range, with what its rules read of the board.
+// A process of a board with what its rules read of the board, and as much of its being in range as they rest on.
 ghost use Prim.Native.Nat.{_^_, _<_, _≤_};
 ghost use Rattle.committee.specs.Views.{lastView};
 use crate::board::Setting;
@@ -18,7 +18,7 @@ pub struct Seat {
     ghost clock: { process .synchronizer .clock ≤ 2 ^ 40 },
 }
 
-// A record in range that is delivered to the process.
+// A record that is delivered to the process; its number is a view or an epoch that there is, or 0.
 #[derive(Clone, Copy)]
 pub struct Delivery {
     pub seat: Seat,

@@ -12,20 +12,13 @@ use lib.Seq.{take-all}
 use Rattle.std.proofs.shelf.Bits.{or-lt, pow-below}
 use Rattle.std.proofs.shelf.Tests.{ne-eqb, lt-ltb, and-left, and-right, cond-true}
 use Rattle.counting.specs.Counts.{any, countTo}
+use Rattle.counting.proofs.Booleans.{or-false, and-true}
 use Rattle.counting.proofs.Any.{any-more}
 use Rattle.counting.proofs.Sums.{count-same}
 use Rattle.counting.proofs.Bits.{ones-count, bitAt-with, bitAt-none}
 use Rattle.committee.specs.declared.sets.ProcessSet.{ProcessSet}
 use Rattle.committee.specs.Sets.{contains, with-member, size, of-bits}
 use Rattle.register.specs.Distinct.{seen, Gathered}
-
-or-false : (a : Bool) → (a || false) ≡ a
-or-false true = refl
-or-false false = refl
-
-and-true : (a b : Bool) → b ≡ true → a ≡ (a && b)
-and-true true b e = sym e
-and-true false b e = refl
 
 -- the set with one member more
 pub with-bits : (s : ProcessSet) (p : ℕ) → p ≤ 30 → with-member s p .bits ≡ bitOr (s .bits) (2 ^ p)
@@ -53,7 +46,7 @@ module _ {X : Type 0} (process : X → ℕ) (counts : X → Bool) where
     with-low s w small (inv .0),
     λ p h.
         with-contains s w p small
-        ∙ ap₂ (λ (a b : Bool). a || b) (inv .1 p h) (ap (λ (v : ℕ). eqb v p) e ∙ and-true (eqb (process x) p) (counts x) is)
+        ∙ ap₂ (λ (a b : Bool). a || b) (inv .1 p h) (ap (λ (v : ℕ). eqb v p) e ∙ sym (and-true (eqb (process x) p) (counts x) is))
         ∙ sym (any-more (λ y. eqb (process y) p && counts y) xs i x l read),
   )
 
@@ -63,7 +56,7 @@ module _ {X : Type 0} (process : X → ℕ) (counts : X → Bool) where
     inv .0,
     λ p h.
         inv .1 p h
-        ∙ sym (or-false (seen process counts (take i xs) p))
+        ∙ sym (or-false (seen process counts (take i xs) p) false refl)
         ∙ ap (λ (b : Bool). seen process counts (take i xs) p || b)
         (sym (⊎-elim (λ e. and-right (eqb (process x) p) (counts x) e) (λ far. and-left (eqb (process x) p) (counts x) (ne-eqb (process x) p (λ q. omega arith))) out))
         ∙ sym (any-more (λ y. eqb (process y) p && counts y) xs i x l read),

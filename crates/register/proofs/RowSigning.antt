@@ -10,6 +10,7 @@ use lib.ListN.{length, length-append}
 use Rattle.std.proofs.shelf.Tests.{or-parts, or-from, and-parts, and-from, and-left, and-right, ltb-true, lt-ltb, not-true, not-from-false, both-ways, cases-bool, cond-true, cond-false}
 use Rattle.std.proofs.shelf.Ways.{tells}
 use Rattle.counting.specs.Counts.{countTo}
+use Rattle.counting.proofs.Booleans.{or-assoc, or-false, and-true}
 use Rattle.counting.proofs.Sums.{count-same, count-more, count-none}
 use Rattle.counting.proofs.Bits.{ones-count, bitAt-none}
 use Rattle.committee.specs.declared.sets.ProcessSet.{ProcessSet}
@@ -23,14 +24,6 @@ use Rattle.register.proofs.Gathering.{with-contains, with-low}
 use Rattle.register.proofs.Signing.{same-is, same-swap}
 use Rattle.register.proofs.RowPairs.{marks, rowsHave, has-pairs, length-row, unlisted}
 
-and-true : (a b : Bool) → b ≡ true → (a && b) ≡ a
-and-true true b e = e
-and-true false b e = refl
-
-or-no : (x : Bool) → (x || false) ≡ x
-or-no true = refl
-or-no false = refl
-
 -- the statement's row says all
 has-signers : (rs : List Row) (p : ℕ) (s : Statement) → sound rs ≡ true → rowsHave rs p s ≡ (ltb p 31 && contains (rowSigners rs s) p)
 has-signers [] p s h = sym (and-right (ltb p 31) _ (bitAt-none p))
@@ -41,7 +34,7 @@ has-signers (r ∷ rs) p s h =
     (λ e.
     let rest : rowsHave rs p s ≡ false = unlisted rs p s (ap (listed rs) (sym (same-is (r .statement) s e)) ∙ not-true _ (b .0)) in
     ap₂ (λ (x y : Bool). (ltb p 31 && x) || y) (and-true (contains (r .signers) p) _ e) rest
-    ∙ or-no (ltb p 31 && contains (r .signers) p)
+    ∙ or-false (ltb p 31 && contains (r .signers) p) false refl
     ∙ ap (λ (m : ProcessSet). ltb p 31 && contains m p) (sym (cond-true (sameStatement (r .statement) s) (r .signers) (rowSigners rs s) e)))
     (λ e.
     ap (λ (x : Bool). x || rowsHave rs p s) (and-right (ltb p 31) _ (and-right (contains (r .signers) p) _ e))
@@ -77,10 +70,6 @@ gathered-row rs s m h e =
 
 new-here : (p q : ℕ) (B S R : Bool) → p ≤ 30 → ((ltb q 31 && ((B || eqb p q) && S)) || R) ≡ (((ltb q 31 && (B && S)) || R) || (eqb p q && S))
 new-here p q B S R h = grind (arith, tells)
-
-or-assoc : (a b c : Bool) → ((a || b) || c) ≡ (a || (b || c))
-or-assoc true b c = refl
-or-assoc false b c = refl
 
 none-has : (q : ℕ) → contains (of-bits 0) q ≡ false
 none-has q = bitAt-none q

@@ -20,6 +20,7 @@ use Rattle.register.specs.declared.pair.Statement.{Statement}
 use Rattle.register.specs.declared.pair.Pair.{Pair}
 use Rattle.register.specs.contracts.pair.PairPartialEq.the-impl.{ghosts}
 use Rattle.register.specs.Pairs.{sameStatement, isPair, hasPair, distinctPairs, Low, Added}
+use Rattle.register.specs.Rows.{pair-of}
 
 pub has-push : (xs : List Pair) (x : Pair) (p : ℕ) (s : Statement) → hasPair (xs ++ x ∷ []) p s ≡ (hasPair xs p s || isPair p s x)
 has-push xs x p s = any-push (isPair p s) xs x
@@ -68,9 +69,6 @@ same-is s t h =
     ap (λ (k : ℕ). made-of k (s .number) (s .value)) (eqb-true _ _ (a .0))
     ∙ ap (λ (n : ℕ). made-of (t .kind) n (s .value)) (eqb-true _ _ (b .0))
     ∙ ap (λ (v : ℕ). made-of (t .kind) (t .number) v) (eqb-true _ _ (b .1))
-
-abbrev pair-of : ℕ → Statement → Pair
-pair-of p s = record { process = p; statement = s }
 
 eqb-self : (a : ℕ) → eqb a a ≡ true
 eqb-self a = eq-eqb a a refl

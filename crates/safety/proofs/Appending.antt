@@ -11,6 +11,7 @@ use Rattle.std.specs.declared.option.Option.{Option}
 use Rattle.std.specs.declared.option.Option.the-variants.{Some, None}
 use Rattle.std.proofs.shelf.Tests.{and-left, and-right}
 use Rattle.counting.specs.Counts.{any, countTo}
+use Rattle.counting.proofs.Booleans.{or-false}
 use Rattle.counting.proofs.Any.{any-push}
 use Rattle.counting.proofs.Bits.{bitAt-none}
 use Rattle.counting.proofs.Sums.{count-same}
@@ -31,14 +32,10 @@ use Rattle.safety.specs.Kept.{Matches}
 pub used-more : (w : Wire) (n : ℕ) (r : Record) → n < length w → take (n + 1) (set w n r) ≡ take n w ++ (r ∷ [])
 used-more w n r h = ap (λ (k : ℕ). take k (set w n r)) (add-one n) ∙ take-suc-set w n r h
 
-or-none : (a : Bool) → a ≡ (a || false)
-or-none true = refl
-or-none false = refl
-
 -- ---- the register holds just what the records sign
 
 share-more : (z : Signed) (p q : ℕ) (o : Option Statement) (t : Statement) → withStatement o p z .has q t ≡ (z .has q t || (eqb p q && isShare o t))
-share-more z p q None t = or-none (z .has q t) ∙ ap (λ (b : Bool). z .has q t || b) (sym (and-right (eqb p q) false refl))
+share-more z p q None t = sym (or-false (z .has q t) false refl) ∙ ap (λ (b : Bool). z .has q t || b) (sym (and-right (eqb p q) false refl))
 share-more z p q (Some s) t = refl
 
 pub matches-push : (z : Signed) (ws : Wire) (r : Record) → Matches z ws → Matches (withShare r z) (ws ++ (r ∷ []))
@@ -52,7 +49,7 @@ pub heard-push : (ws : Wire) (r : Record) (p w q : ℕ) → r .heeded ≡ of-bit
 heard-push ws r p w q new =
     any-push (λ x. contains (x .heeded) p && sends q 1 0 w x) ws r
     ∙ ap (λ (b : Bool). heardOf ws p w q || b) (and-left (contains (r .heeded) p) (sends q 1 0 w r) (ap (λ (s : ProcessSet). contains s p) new ∙ bitAt-none p))
-    ∙ sym (or-none (heardOf ws p w q))
+    ∙ or-false (heardOf ws p w q) false refl
 
 pub cap-push : (c : Committee) (ws : Wire) (r : Record) (p w : ℕ) → r .heeded ≡ of-bits 0 → countTo (heardOf (ws ++ (r ∷ [])) p w) 31 ≡ countTo (heardOf ws p w) 31
 cap-push c ws r p w new = count-same (heardOf (ws ++ (r ∷ [])) p w) (heardOf ws p w) 31 (λ q _. heard-push ws r p w q new)

@@ -182,19 +182,13 @@ inject-leaves n room m p d =
         let r = sent (of-bits (d .to)) p j (d .number) (d .value) (d .back) w in
         cond-both (not (inRange (m .table .setting .committee .n) r)) _ _ P (λ _. tt) (λ _. roomy-kept P room m _ (λ _. tt) (λ _. record { stays = λ _. refl }))
 
--- ---- what a move makes of the seats and of the setting
+-- ---- what a move makes of the seats
 
 notes-processes : (first second : Option Record) (m : Moment) → noted second (noted first m) .table .processes ≡ m .table .processes
 notes-processes None None m = refl
 notes-processes (Some r) None m = refl
 notes-processes None (Some z) m = refl
 notes-processes (Some r) (Some z) m = refl
-
-notes-setting : (first second : Option Record) (m : Moment) → noted second (noted first m) .table .setting ≡ m .table .setting
-notes-setting None None m = refl
-notes-setting (Some r) None m = refl
-notes-setting None (Some z) m = refl
-notes-setting (Some r) (Some z) m = refl
 
 done-decided : (z : Step) (p o x : ℕ) (m m' : Moment) → m' .table .processes ≡ m .table .processes → o < length (m .table .processes) → Leaves (seat (m .table) p) z
     → 1 ≤ x → seat (m .table) o .core .decided ≡ x → seat (done p z m' .table) o .core .decided ≡ x
@@ -219,11 +213,3 @@ pub received-decided : (plan : Result Step Refusal) (p i o x : ℕ) (m : Moment)
     → 1 ≤ x → seat (m .table) o .core .decided ≡ x → seat (received plan p i m .table) o .core .decided ≡ x
 received-decided (Err e) p i o x m short leaves some is = is
 received-decided (Ok z) p i o x m short leaves some is = done-decided z p o x m (moment (m .table) (marked p i (z .heed) (m .wire)) (m .signed)) refl short leaves some is
-
-pub played-setting : (plan : Result Step Refusal) (p : ℕ) (m : Moment) → played plan p m .table .setting ≡ m .table .setting
-played-setting (Err e) p m = refl
-played-setting (Ok z) p m = notes-setting (z .first) (z .second) _
-
-pub received-setting : (plan : Result Step Refusal) (p i : ℕ) (m : Moment) → received plan p i m .table .setting ≡ m .table .setting
-received-setting (Err e) p i m = refl
-received-setting (Ok z) p i m = notes-setting (z .first) (z .second) _

@@ -9,6 +9,7 @@ use lib.ListN.{length, getD, set, take, length-set}
 use lib.Seq.{getD-take, length-take-le}
 use Rattle.std.proofs.shelf.Tests.{and-left, and-right, ne-eqb}
 use Rattle.counting.specs.Counts.{any, countTo}
+use Rattle.counting.proofs.Booleans.{or-false}
 use Rattle.counting.proofs.Sums.{count-same}
 use Rattle.committee.specs.declared.sets.ProcessSet.{ProcessSet}
 use Rattle.committee.specs.Sets.{contains, with-member}
@@ -32,13 +33,9 @@ use Rattle.safety.proofs.Lasting.{tied-set}
 pub delivered-same : (p : ℕ) (h : Bool) (r : Record) → Same r (delivered p h r)
 delivered-same p h r = record { sender = refl; kind = refl; number = refl; value = refl; to = refl }
 
-or-no : (a b : Bool) → b ≡ false → (a || b) ≡ a
-or-no true b e = refl
-or-no false b e = e
-
 -- another process, or a delivery that is not heeded
 heeded-other : (p o : ℕ) (h : Bool) (r : Record) → p ≤ 30 → (o ≡ p → ⊥) → contains (delivered p h r .heeded) o ≡ contains (r .heeded) o
-heeded-other p o true r small n = with-contains (r .heeded) p o small ∙ or-no (contains (r .heeded) o) (eqb p o) (ne-eqb p o (λ e. n (sym e)))
+heeded-other p o true r small n = with-contains (r .heeded) p o small ∙ or-false (contains (r .heeded) o) (eqb p o) (ne-eqb p o (λ e. n (sym e)))
 heeded-other p o false r small n = refl
 
 module _ (ws : Wire) (i : ℕ) (d : Record) (l : i < length ws) (p : ℕ) (small : p ≤ 30) where

@@ -16,11 +16,13 @@ use Rattle.std.specs.declared.result.Result.{Result}
 use Rattle.std.specs.declared.result.Result.the-variants.{Ok, Err}
 use Rattle.refusals.specs.declared.causes.Refusal.{Refusal}
 use Rattle.counting.specs.Counts.{any, every, sumTo}
+use Rattle.counting.proofs.Booleans.{or-false}
 use Rattle.committee.specs.declared.membership.Committee.{Committee}
 use Rattle.committee.specs.Sets.{of-bits}
 use Rattle.register.specs.declared.pair.Statement.{Statement}
 use Rattle.register.specs.declared.pair.Pair.{Pair}
 use Rattle.register.specs.Pairs.{sameStatement, hasPair}
+use Rattle.register.specs.Rows.{pair-of}
 use Rattle.register.proofs.Signing.{has-push, same-is}
 use Rattle.wire.specs.declared.record.Record.{Record}
 use Rattle.wire.specs.Shares.{shareOf}
@@ -37,7 +39,7 @@ use Rattle.safety.specs.Witnesses.{inTurn, pairsHeld, Some-decide, Some-advanc
 -- ---- a list of pairs as a register
 
 abbrev put : ℕ → Statement → List Pair → List Pair
-put p s xs = cond (hasPair xs p s) xs (xs ++ (record { process = p; statement = s }) ∷ [])
+put p s xs = cond (hasPair xs p s) xs (xs ++ pair-of p s ∷ [])
 
 abbrev signed-by : (ℕ → Statement → Bool) → ℕ → Signed
 signed-by has size = record { has = has; size = size }
@@ -50,20 +52,16 @@ held-has xs p q s t held =
           let is : hasPair xs q t ≡ true
           = sym (ap₂ (hasPair xs) (eqb-true p q (parts .0)) (same-is s t (parts .1))) ∙ held in
           is ∙ sym (ap (λ (b : Bool). b || (eqb p q && sameStatement s t)) is)
-      | inr e ↦ or-false (hasPair xs q t) ∙ sym (ap (λ (b : Bool). hasPair xs q t || b) e)
+      | inr e ↦ sym (or-false (hasPair xs q t) (eqb p q && sameStatement s t) e)
     ]
-  where
-    or-false : (b : Bool) → b ≡ (b || false)
-    or-false true = refl
-    or-false false = refl
 
 put-signed : (xs : List Pair) (p : ℕ) (s : Statement) → signedOf (put p s xs) ≡ withPair p s (signedOf xs)
 put-signed xs p s = by (hasPair xs p s) refl
   where
     by : (b : Bool) → hasPair xs p s ≡ b
-        → signedOf (cond b xs (xs ++ (record { process = p; statement = s }) ∷ [])) ≡ signed-by (λ q t. hasPair xs q t || (eqb p q && sameStatement s t)) (length xs + cond b 0 1)
+        → signedOf (cond b xs (xs ++ pair-of p s ∷ [])) ≡ signed-by (λ q t. hasPair xs q t || (eqb p q && sameStatement s t)) (length xs + cond b 0 1)
     by true e = ap₂ signed-by (fun-ext (λ q. fun-ext (λ t. held-has xs p q s t e))) (omega arith)
-    by false e = ap₂ signed-by (fun-ext (λ q. fun-ext (λ t. has-push xs (record { process = p; statement = s }) q t))) (length-push xs (record { process = p; statement = s }))
+    by false e = ap₂ signed-by (fun-ext (λ q. fun-ext (λ t. has-push xs (pair-of p s) q t))) (length-push xs (pair-of p s))
 
 abbrev put-share : Option Statement → ℕ → List Pair → List Pair
 put-share None p xs = xs

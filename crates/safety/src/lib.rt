@@ -1,1 +1,1 @@
-// What ties a correct process's fields to the wire, and how long that lasts. Definitions and lemmas; no functions yet.
+// Definitions and lemmas on what every move keeps, and so on what holds in every run; no functions.

@@ -4,7 +4,7 @@ use lib.Dec.{eqb}
 use Rattle.protocol.specs.Moments.{recordAt, noRecord}
 use Rattle.protocol.specs.Plans.{better}
 use Rattle.protocol.proofs.Backing.{best-more, best-all}
-use Rattle.protocol.proofs.counts.best_of.Needs as need
+use Rattle.protocol.proofs.counts.best_backing.Needs as need
 
 pub loop-i-holds : need.loop-i-holds
 loop-i-holds c = refl
