@@ -2,13 +2,13 @@
 -- Each fact about groups is one inequality at each process, summed up.
 use mathlib.Core.Path.{_≡_, refl, ap}
 use mathlib.Core.Bool.{Bool, true, false, not, _&&_, cond}
-use Prim.Native.Nat.{ℕ, _+_, _^_, _≤_, _<_}
+use Prim.Native.Nat.{ℕ, _+_, _≤_}
 use native.Mathlib.Omega.{arith}
 use native.Mathlib.Nat.{lt-of-lt-of-le}
 use lib.Dec.{ltb, lit≤}
 use lib.Pow.{pow-mono}
 use Rattle.std.proofs.shelf.Tests.{lt-ltb, and-parts}
-use Rattle.counting.specs.Counts.{sumTo, countTo}
+use Rattle.counting.specs.Counts.{countTo}
 use Rattle.counting.proofs.Sums.{sum-le, sum-add, found, below-few}
 use Rattle.counting.proofs.Bits.{ones-count}
 use Rattle.committee.specs.declared.membership.Committee.{Committee}

@@ -7,8 +7,8 @@
 --   bestBacking         the first largest backing among the records that h asks for, with the one at place i
 --   ruled               the rule of the delivered record's kind
 --   tickPlan, proposePlan, expirePlan, deliverPlan, injectPlan   the five moves on a board
-use Prim.Native.Nat.{ℕ, _+_, _≤_, min}
-use mathlib.Core.Bool.{Bool, true, false, not, cond, _&&_, _||_}
+use Prim.Native.Nat.{ℕ, _+_, min}
+use mathlib.Core.Bool.{Bool, not, cond, _&&_, _||_}
 use mathlib.Core.List.{List, [], _∷_}
 use lib.Dec.{eqb, leb, ltb}
 use lib.ListN.{length, getD, take}

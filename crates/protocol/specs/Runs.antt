@@ -7,9 +7,9 @@
 --   Move          one move, accepted or refused
 --   Onward        any number of moves
 --   Run           what can be reached from a new board and an empty register
-use Prim.Native.Nat.{ℕ, _<_}
+use Prim.Native.Nat.{ℕ}
 use mathlib.Core.Path.{_≡_}
-use mathlib.Core.Bool.{Bool, true, false}
+use mathlib.Core.Bool.{true, false}
 use mathlib.Core.List.{List}
 use lib.ListN.{length, replicate}
 use Rattle.std.specs.declared.result.Result.{Result}

@@ -7,7 +7,7 @@
 --   acts q            one that is heeded and changes the process
 --   acts-with q r     one that appends a record too
 --   acts-twice        one that appends two
-use mathlib.Core.Bool.{Bool, true, false}
+use mathlib.Core.Bool.{true, false}
 use Rattle.std.specs.declared.option.Option.the-variants.{Some, None}
 use Rattle.wire.specs.declared.record.Record.{Record}
 use Rattle.protocol.specs.declared.process.Process.{Process}

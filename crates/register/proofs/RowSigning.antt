@@ -1,13 +1,13 @@
 -- What the rows of a tally hold, and what one signer more does to them. Assumes nothing.
 use mathlib.Core.Path.{_≡_, refl, sym, ap, ap₂, _∙_, subst}
 use mathlib.Core.Bool.{Bool, true, false, not, cond, _&&_, _||_}
-use mathlib.Core.List.{List, [], _∷_, _++_}
+use mathlib.Core.List.{List, [], _∷_}
 use mathlib.Core.Logic.{_⊎_, ⊎-elim}
 use Prim.Native.Nat.{ℕ, _+_, _^_, _<_, _≤_}
 use native.Mathlib.Omega.{arith}
 use lib.Dec.{eqb, ltb, lit<}
 use lib.ListN.{length, length-append}
-use Rattle.std.proofs.shelf.Tests.{or-parts, or-from, and-parts, and-from, and-left, and-right, ltb-true, lt-ltb, not-true, not-from-false, both-ways, cases-bool, cond-true, cond-false}
+use Rattle.std.proofs.shelf.Tests.{or-parts, or-from, and-parts, and-from, and-right, ltb-true, lt-ltb, not-true, not-from-false, both-ways, cases-bool, cond-true, cond-false}
 use Rattle.std.proofs.shelf.Ways.{tells}
 use Rattle.counting.specs.Counts.{countTo}
 use Rattle.counting.proofs.Booleans.{or-assoc, or-false, and-true}

@@ -1,14 +1,14 @@
 -- One pair more at the end of a list of pairs. Assumes nothing.
-use mathlib.Core.Path.{_≡_, refl, sym, ap, ap₂, _∙_, subst}
-use mathlib.Core.Bool.{Bool, true, false, not, cond, _&&_, _||_}
+use mathlib.Core.Path.{_≡_, refl, sym, ap, ap₂, _∙_}
+use mathlib.Core.Bool.{Bool, true, false, not, cond, _||_}
 use mathlib.Core.List.{List, [], _∷_, _++_}
 use mathlib.Core.Logic.{_⊎_, ⊎-elim}
-use Prim.Native.Nat.{ℕ, _+_, _<_, _≤_}
+use Prim.Native.Nat.{ℕ, _+_, _≤_}
 use native.Mathlib.Omega.{arith}
 use borrow.Author.Needs.{needs}
 use lib.Dec.{eqb}
 use lib.ListN.{length}
-use Rattle.std.proofs.shelf.Tests.{or-parts, or-from, or-cases, and-parts, and-from, eqb-true, eq-eqb, not-true, not-from-false, both-ways, cases-bool, or-left}
+use Rattle.std.proofs.shelf.Tests.{or-parts, or-from, or-cases, and-parts, and-from, eqb-true, eq-eqb, not-true, not-from-false}
 use Rattle.std.proofs.shelf.Lists.{length-push}
 use Rattle.std.proofs.shelf.Ways.{tells, same-from-decides, decides-at, decides-by-or}
 use Rattle.std.proofs.shelf.Elements.{has-from-contains}

@@ -1,17 +1,16 @@
 -- To whom the records of correct processes go, and that they are well formed. Assumes nothing.
-use mathlib.Core.Path.{_≡_, refl, sym, ap, _∙_}
+use mathlib.Core.Path.{_≡_, refl, ap, _∙_}
 use mathlib.Core.Bool.{Bool, false, cond, _||_}
-use mathlib.Core.Logic.{_⊎_, inl, inr}
-use Prim.Native.Nat.{ℕ, _+_, _-_, _^_, _≤_, _<_}
+use mathlib.Core.Logic.{inl, inr}
+use Prim.Native.Nat.{ℕ, _+_, _-_, _≤_, _<_}
 use native.Mathlib.Omega.{arith}
-use lib.Count.{ones, ones-ones}
+use lib.Count.{ones-ones}
 use lib.Dec.{eqb, ltb, lit<}
 use Rattle.std.proofs.shelf.Tests.{lt-ltb}
-use Rattle.counting.specs.Counts.{sumTo, countTo, bitAt}
-use Rattle.counting.proofs.Sums.{count-more, count-same, count-none}
+use Rattle.counting.proofs.Sums.{count-more, count-none}
 use Rattle.counting.proofs.Bits.{ones-count, bitAt-none}
 use Rattle.committee.specs.declared.membership.Committee.{Committee}
-use Rattle.committee.specs.Sets.{contains, all, size, of-bits, with-member}
+use Rattle.committee.specs.Sets.{contains, all, size, of-bits}
 use Rattle.register.proofs.Gathering.{with-low, with-contains}
 use Rattle.wire.specs.declared.record.Record.{Record}
 use Rattle.wire.specs.Kinds.{kindNumber}

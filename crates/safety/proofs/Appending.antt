@@ -1,7 +1,7 @@
 -- What one record more does to the used part of the wire, to what is signed, and to what was heard. Assumes nothing.
-use mathlib.Core.Path.{_≡_, refl, sym, ap, ap₂, _∙_}
-use mathlib.Core.Bool.{Bool, true, false, _&&_, _||_}
-use mathlib.Core.List.{List, [], _∷_, _++_}
+use mathlib.Core.Path.{_≡_, refl, sym, ap, _∙_}
+use mathlib.Core.Bool.{Bool, false, _&&_, _||_}
+use mathlib.Core.List.{[], _∷_, _++_}
 use Prim.Native.Nat.{ℕ, _+_, _<_}
 use native.Mathlib.Numerals.{add-one}
 use lib.Dec.{eqb}
@@ -10,7 +10,7 @@ use lib.Seq.{take-suc-set}
 use Rattle.std.specs.declared.option.Option.{Option}
 use Rattle.std.specs.declared.option.Option.the-variants.{Some, None}
 use Rattle.std.proofs.shelf.Tests.{and-left, and-right}
-use Rattle.counting.specs.Counts.{any, countTo}
+use Rattle.counting.specs.Counts.{countTo}
 use Rattle.counting.proofs.Booleans.{or-false}
 use Rattle.counting.proofs.Any.{any-push}
 use Rattle.counting.proofs.Bits.{bitAt-none}
@@ -18,9 +18,7 @@ use Rattle.counting.proofs.Sums.{count-same}
 use Rattle.committee.specs.declared.membership.Committee.{Committee}
 use Rattle.committee.specs.declared.sets.ProcessSet.{ProcessSet}
 use Rattle.committee.specs.Sets.{contains, of-bits}
-use Rattle.committee.specs.Thresholds.{weakQuorumOf}
 use Rattle.register.specs.declared.pair.Statement.{Statement}
-use Rattle.register.specs.Pairs.{sameStatement}
 use Rattle.wire.specs.declared.record.Record.{Record}
 use Rattle.wire.specs.Shares.{shareOf}
 use Rattle.protocol.specs.Moments.{Signed, withStatement, withShare}

@@ -1,23 +1,22 @@
 -- Propose, tick, expire and inject keep everything. Assumes nothing.
-use mathlib.Core.Path.{_≡_, refl, sym, ap, _∙_, subst}
-use mathlib.Core.Bool.{Bool, true, false, not, cond, _&&_}
-use mathlib.Core.List.{List, [], _∷_, _++_}
-use mathlib.Core.Logic.{_⊎_, inl, inr}
+use mathlib.Core.Path.{_≡_, refl}
+use mathlib.Core.Bool.{true, false, not}
+use mathlib.Core.List.{[], _∷_, _++_}
+use mathlib.Core.Logic.{inl, inr}
 use Prim.Native.Nat.{ℕ, _+_, _≤_, _<_}
 use native.Mathlib.Omega.{arith}
-use lib.Dec.{eqb, leb, ltb}
+use lib.Dec.{eqb, ltb}
 use lib.ListN.{length}
 use Rattle.std.specs.declared.option.Option.{Option}
 use Rattle.std.specs.declared.option.Option.the-variants.{Some, None}
 use Rattle.std.specs.declared.result.Result.{Result}
-use Rattle.std.specs.declared.result.Result.the-variants.{Ok, Err}
-use Rattle.std.proofs.shelf.Tests.{cond-both, cond-true, cond-false, and-parts, ltb-true, ltb-false, not-false, not-true, cases-bool, both-ways, false≢true}
+use Rattle.std.specs.declared.result.Result.the-variants.{Ok}
+use Rattle.std.proofs.shelf.Tests.{cond-both, cond-true, cond-false, and-parts, ltb-true, ltb-false, not-false, cases-bool, both-ways, false≢true}
 use Rattle.refusals.specs.declared.causes.Refusal.{Refusal}
 use Rattle.committee.specs.declared.membership.Committee.{Committee}
 use Rattle.wire.specs.declared.kind.Kind.{Kind}
 use Rattle.wire.specs.declared.kind.Kind.the-variants.{Disclose, EpochCompleted, EnterEpoch}
 use Rattle.wire.specs.declared.vouch.Vouch.{Vouch}
-use Rattle.wire.specs.declared.record.Record.{Record}
 use Rattle.wire.specs.Kinds.{kindOf, vouchOf}
 use Rattle.wire.specs.Ranges.{inRange}
 use Rattle.protocol.specs.declared.process.Phase.{Phase}
@@ -30,14 +29,14 @@ use Rattle.committee.specs.Sets.{of-bits}
 use Rattle.protocol.specs.Sending.{sent, toAll, viewChange}
 use Rattle.protocol.specs.Steps.{moves-on, moves}
 use Rattle.protocol.specs.Certifying.{proposes}
-use Rattle.protocol.specs.Synchronizing.{lastPlace, viewHere, entered, timerOff, spreadOff, onViewExpiry, onSpreadExpiry}
+use Rattle.protocol.specs.Synchronizing.{lastPlace, viewHere, entered, timerOff, spreadOff, onSpreadExpiry}
 use Rattle.protocol.specs.Moments.{Moment, played}
-use Rattle.protocol.specs.Plans.{seat, usedOf, boardFits, isFaulty, later, tickPlan, proposePlan, isDue, deadlineOf, atEnd, viewExpiry, spreadExpiry, expirePlan, Draft, drafted, draftOf, injecting, injectPlan}
+use Rattle.protocol.specs.Plans.{seat, usedOf, isFaulty, later, tickPlan, proposePlan, isDue, deadlineOf, atEnd, viewExpiry, spreadExpiry, expirePlan, Draft, drafted, injecting, injectPlan}
 use Rattle.agreement.specs.Wires.{Wire, Correct}
 use Rattle.agreement.proofs.Records.{formed}
 use Rattle.safety.specs.Ties.{Tied, Capped}
 use Rattle.safety.specs.Kept.{committeeOf, Kept, Good, Room}
-use Rattle.safety.proofs.Fitting.{Runs, runs-stand, waits-stand, size-is, seat-fits}
+use Rattle.safety.proofs.Fitting.{runs-stand, waits-stand, size-is, seat-fits}
 use Rattle.safety.proofs.Keeping.{but, kept-done}
 use Rattle.safety.proofs.Receiving.{sendable}
 use Rattle.safety.proofs.Certifying.{propose-ready, propose-tied}

@@ -1,16 +1,15 @@
 -- The rules of certification keep the ties, and what they send is lawful. Assumes nothing.
-use mathlib.Core.Path.{_≡_, refl, sym, ap, _∙_, subst}
-use mathlib.Core.Bool.{Bool, true, false}
-use mathlib.Core.List.{List, [], _∷_, _++_, append-assoc}
-use mathlib.Core.Logic.{_⊎_, inl, inr}
-use Prim.Native.Nat.{ℕ, _+_, _*_, _≤_, _<_}
+use mathlib.Core.Path.{_≡_, refl, sym, subst}
+use mathlib.Core.Bool.{true, false}
+use mathlib.Core.List.{[], _∷_, _++_, append-assoc}
+use mathlib.Core.Logic.{inl, inr}
+use Prim.Native.Nat.{ℕ, _+_, _<_}
 use native.Mathlib.Omega.{arith}
 use Rattle.std.proofs.shelf.Tests.{both-ways, false≢true}
 use Rattle.counting.specs.Counts.{any}
 use Rattle.committee.specs.declared.membership.Committee.{Committee}
 use Rattle.wire.specs.declared.kind.Kind.the-variants.{Disclose, AllowAny}
 use Rattle.wire.specs.declared.vouch.Vouch.{Vouch}
-use Rattle.wire.specs.declared.record.Record.{Record}
 use Rattle.protocol.specs.declared.process.Phase.{Phase}
 use Rattle.protocol.specs.declared.process.Phase.the-variants.{Idle, Certifying, Running}
 use Rattle.protocol.specs.declared.process.Process.{Process}
@@ -22,11 +21,11 @@ use Rattle.agreement.specs.Wires.{Wire, Correct, Sent, posts}
 use Rattle.agreement.proofs.Elements.{any-last}
 use Rattle.agreement.proofs.Records.{posts-from}
 use Rattle.agreement.proofs.Growth.{below-longer}
-use Rattle.safety.specs.Ties.{Past, Advances, Tied}
+use Rattle.safety.specs.Ties.{Tied}
 use Rattle.safety.proofs.Sending.{lawful-plain, fresh, fresh-behind}
 use Rattle.safety.proofs.Pasts.{past-1, past-2, past-3, past-6}
-use Rattle.safety.proofs.Addressing.{to-one, to-all, not-by, not-to}
-use Rattle.safety.proofs.Resting.{Ready, Rest, rest-of, rest-more, tie}
+use Rattle.safety.proofs.Addressing.{to-all, not-by, not-to}
+use Rattle.safety.proofs.Resting.{Ready, rest-of, rest-more, tie}
 use Rattle.safety.proofs.Synchronizing.{change-ready}
 
 idle-rests : (s : Phase) → idle s ≡ true → running s ≡ true → ⊥

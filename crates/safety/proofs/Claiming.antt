@@ -2,7 +2,7 @@
 use mathlib.Core.Path.{_≡_, refl, sym, ap, _∙_}
 use mathlib.Core.Bool.{Bool, true, false, cond, _&&_, _||_}
 use mathlib.Core.List.{List, [], _∷_}
-use mathlib.Core.Logic.{_⊎_, inl, inr}
+use mathlib.Core.Logic.{inl, inr}
 use Prim.Native.Nat.{ℕ, zero, suc, _-_, _≤_, _<_}
 use native.Mathlib.Omega.{arith}
 use native.Mathlib.Nat.{le-trans}
@@ -10,7 +10,7 @@ use lib.Dec.{eqb, ltb}
 use lib.ListN.{length, getD}
 use Rattle.std.specs.declared.option.Option.the-variants.{None}
 use Rattle.std.proofs.shelf.Tests.{leb-true, lt-ltb, le-ltb, cases-lt, cases-eq, eq-eqb, ne-eqb, cond-true, cond-false, false≢true, or-cases, or-left, or-right, and-parts, and-from, eqb-true}
-use Rattle.counting.specs.Counts.{any, countTo}
+use Rattle.counting.specs.Counts.{any}
 use Rattle.counting.proofs.Sums.{count-same, sum-le}
 use Rattle.committee.specs.declared.membership.Committee.{Committee}
 use Rattle.committee.specs.Thresholds.{quorumOf, weakQuorumOf}
@@ -25,7 +25,7 @@ use Rattle.wire.specs.declared.record.Record.{Record}
 use Rattle.wire.specs.declared.claim.Claim.{Claim}
 use Rattle.wire.specs.declared.claim.Claim.the-variants as claim
 use Rattle.wire.specs.Kinds.{kindNumber}
-use Rattle.wire.specs.Shares.{statement, shareBy, shareOf}
+use Rattle.wire.specs.Shares.{statement, shareBy}
 use Rattle.wire.specs.Claims.{vouched, prepared, claimBy, claimOf, claimHolds}
 use Rattle.wire.specs.Heeding.{isHeeded}
 use Rattle.protocol.specs.Moments.{Signed}

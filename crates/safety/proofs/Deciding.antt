@@ -1,19 +1,17 @@
 -- No move changes a decision. Assumes nothing.
-use mathlib.Core.Path.{_≡_, refl, sym, ap, _∙_, subst}
-use mathlib.Core.Bool.{Bool, true, false, not, cond, _&&_}
-use mathlib.Core.List.{List}
-use mathlib.Core.Logic.{_⊎_, inl, inr, _≢_}
+use mathlib.Core.Path.{_≡_, refl, sym, ap, _∙_}
+use mathlib.Core.Bool.{Bool, not, _&&_}
+use mathlib.Core.Logic.{inl, inr, _≢_}
 use Prim.Native.Nat.{ℕ, _+_, _≤_, _<_}
 use native.Mathlib.Omega.{arith}
 use lib.Dec.{eqb, leb, ltb}
-use lib.ListN.{length, getD, set, length-set}
+use lib.ListN.{length, getD, set}
 use lib.Seq.{getD-set-same, getD-set-other}
 use Rattle.std.specs.declared.option.Option.{Option}
 use Rattle.std.specs.declared.option.Option.the-variants.{Some, None}
 use Rattle.std.specs.declared.result.Result.{Result}
 use Rattle.std.specs.declared.result.Result.the-variants.{Ok, Err}
-use Rattle.std.proofs.shelf.Tests.{cond-both, and-parts, eqb-true, cases-eq, cases-lt}
-use Rattle.std.proofs.shelf.Lists.{getD-past}
+use Rattle.std.proofs.shelf.Tests.{cond-both, and-parts, eqb-true, cases-eq}
 use Rattle.refusals.specs.declared.causes.Refusal.{Refusal}
 use Rattle.wire.specs.declared.kind.Kind.{Kind}
 use Rattle.wire.specs.declared.kind.Kind.the-variants.{Disclose, AllowAny, Certificate, EpochCompleted, EnterEpoch, ViewChange, Prepare, PrepareVote, Precommit, PrecommitVote, Commit, CommitVote, Decide}
@@ -33,11 +31,11 @@ use Rattle.protocol.specs.Processes.{blankProcess, idle}
 use Rattle.protocol.specs.Ranges.{between, lastTick}
 use Rattle.protocol.specs.Sending.{sent}
 use Rattle.protocol.specs.Certifying.{onDisclose, onAllowAny, onCertificate}
-use Rattle.protocol.specs.Synchronizing.{lastPlace, viewHere, onViewExpiry, onSpreadExpiry, onEpochCompleted, onEnterEpoch}
+use Rattle.protocol.specs.Synchronizing.{lastPlace, viewHere, onViewExpiry, onEpochCompleted, onEnterEpoch}
 use Rattle.protocol.specs.Voting.{unlocked, phaseOf, onViewChange, onPrepare, onPrecommit, onCommit, onDecide, onVote}
-use Rattle.protocol.specs.Moments.{Moment, moment, seated, noted, appended, done, played, received, marked, recordAt, noRecord}
+use Rattle.protocol.specs.Moments.{Moment, moment, seated, noted, done, played, received, marked, recordAt, noRecord}
 use Rattle.wire.specs.Claims.{claimOf, claimHolds}
-use Rattle.protocol.specs.Plans.{seat, usedOf, asked, fromSenders, bestBacking, isFaulty, untimely, ofOneView, stale, undeliverable, atEnd, isDue, deadlineOf, spreadExpiry, tickPlan, proposePlan, expirePlan, viewExpiry, deliverPlan, injectPlan, injecting, drafted, Draft, ruledBy, ruled}
+use Rattle.protocol.specs.Plans.{seat, usedOf, asked, fromSenders, bestBacking, isFaulty, untimely, ofOneView, stale, undeliverable, atEnd, isDue, deadlineOf, tickPlan, proposePlan, expirePlan, deliverPlan, injectPlan, injecting, drafted, Draft, ruledBy}
 use Rattle.safety.proofs.Moves.{known-kept, roomy-kept}
 
 -- a step leaves the decision, unless there was none

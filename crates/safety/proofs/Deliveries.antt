@@ -1,21 +1,19 @@
 -- The rules of the view core and the synchronizer keep everything as a record is delivered. Assumes nothing.
-use mathlib.Core.Path.{_≡_, refl, sym, ap, _∙_, subst}
-use mathlib.Core.Bool.{Bool, true, false, cond, _&&_, _||_}
-use mathlib.Core.List.{List, [], _∷_, _++_}
+use mathlib.Core.Path.{_≡_, refl, sym, subst}
+use mathlib.Core.Bool.{Bool, true, cond, _&&_}
 use mathlib.Core.Logic.{_⊎_, inl, inr}
 use Prim.Native.Nat.{ℕ, _+_, _-_, _≤_, _<_}
 use native.Mathlib.Omega.{arith}
 use lib.Dec.{eqb, leb, ltb}
 use lib.ListN.{length, set}
 use lib.Seq.{length-take-le, getD-take}
-use Rattle.std.specs.declared.option.Option.the-variants.{Some, None}
-use Rattle.std.specs.declared.result.Result.the-variants.{Ok, Err}
+use Rattle.std.specs.declared.option.Option.the-variants.{None}
+use Rattle.std.specs.declared.result.Result.the-variants.{Ok}
 use Rattle.std.proofs.shelf.Tests.{cond-both, and-parts, or-cases, eqb-true, ltb-true, leb-true}
 use Rattle.committee.specs.declared.membership.Committee.{Committee}
 use Rattle.committee.specs.Thresholds.{quorumOf}
 use Rattle.register.specs.declared.pair.Statement.{Statement}
-use Rattle.wire.specs.declared.kind.Kind.{Kind}
-use Rattle.wire.specs.declared.kind.Kind.the-variants.{EpochCompleted, EnterEpoch, ViewChange, Prepare, PrepareVote, Precommit, PrecommitVote, Commit, CommitVote, Decide}
+use Rattle.wire.specs.declared.kind.Kind.the-variants.{EpochCompleted, EnterEpoch, Prepare, PrepareVote, Precommit, PrecommitVote, Commit, CommitVote, Decide}
 use Rattle.wire.specs.declared.vouch.Vouch.the-variants.{Nothing}
 use Rattle.wire.specs.declared.record.Record.{Record}
 use Rattle.wire.specs.Kinds.{kindNumber}
@@ -25,15 +23,14 @@ use Rattle.protocol.specs.declared.ballot.Ballot.{Ballot}
 use Rattle.protocol.specs.declared.ballot.Ballot.the-variants as ballot
 use Rattle.protocol.specs.declared.process.Mark.{Mark}
 use Rattle.protocol.specs.declared.process.Process.{Process}
-use Rattle.protocol.specs.declared.board.Setting.{Setting}
 use Rattle.protocol.specs.declared.step.Step.{Step}
 use Rattle.protocol.specs.Processes.{running, mark, with-core}
 use Rattle.protocol.specs.Moments.{Moment, received, delivered, recordAt, noRecord}
 use Rattle.protocol.specs.Plans.{seat, usedOf, asked, fromSenders}
 use Rattle.protocol.specs.Sending.{toOne}
-use Rattle.protocol.specs.Steps.{drops, heeds, acts, acts-with}
+use Rattle.protocol.specs.Steps.{drops, heeds}
 use Rattle.protocol.specs.Synchronizing.{awaiting, onEpochCompleted, onEnterEpoch}
-use Rattle.protocol.specs.Voting.{with-step, with-prepared, with-locked, with-decided, with-lead, unlocked, proposing, onViewChange, onPrepare, onPrecommit, onCommit, onDecide, phaseOf, nextKind, onVote}
+use Rattle.protocol.specs.Voting.{with-step, with-prepared, with-locked, with-decided, with-lead, unlocked, onViewChange, onPrepare, onPrecommit, onCommit, onDecide, phaseOf, nextKind, onVote}
 use Rattle.agreement.specs.Wires.{Wire, Correct}
 use Rattle.agreement.specs.Facts.{Facts, Formed, ByLeader}
 use Rattle.agreement.specs.Signing.{Quorum}

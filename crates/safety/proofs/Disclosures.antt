@@ -1,12 +1,11 @@
 -- The rules of certification keep everything as a record is delivered. Assumes nothing.
 use mathlib.Core.Path.{_≡_, refl, sym, ap, _∙_, subst}
-use mathlib.Core.Bool.{Bool, true, false, not, cond, _&&_}
-use mathlib.Core.List.{List, [], _∷_, _++_}
-use mathlib.Core.Logic.{_⊎_, inl, inr}
+use mathlib.Core.Bool.{Bool, true, false, not, _&&_}
+use mathlib.Core.Logic.{inl, inr}
 use Prim.Native.Nat.{ℕ, _+_, _≤_, _<_}
 use native.Mathlib.Omega.{arith}
-use lib.Dec.{eqb, leb}
-use lib.ListN.{length, getD, set}
+use lib.Dec.{leb}
+use lib.ListN.{length, set}
 use lib.Seq.{length-take-le, getD-take}
 use Rattle.std.specs.declared.option.Option.the-variants.{Some, None}
 use Rattle.std.specs.declared.result.Result.the-variants.{Ok}
@@ -15,8 +14,7 @@ use Rattle.counting.specs.Counts.{countTo}
 use Rattle.counting.proofs.Sums.{count-same}
 use Rattle.committee.specs.declared.membership.Committee.{Committee}
 use Rattle.committee.specs.Thresholds.{weakQuorumOf, disclosureQuorumOf}
-use Rattle.wire.specs.declared.kind.Kind.{Kind}
-use Rattle.wire.specs.declared.kind.Kind.the-variants.{Disclose, AllowAny, Certificate}
+use Rattle.wire.specs.declared.kind.Kind.the-variants.{Disclose, AllowAny}
 use Rattle.wire.specs.declared.vouch.Vouch.{Vouch}
 use Rattle.wire.specs.declared.vouch.Vouch.the-variants.{Disclosed, Any}
 use Rattle.wire.specs.declared.record.Record.{Record}
@@ -29,7 +27,7 @@ use Rattle.protocol.specs.Plans.{seat, usedOf, asked, fromSenders}
 use Rattle.protocol.specs.Sending.{toAll, certificate, viewChange}
 use Rattle.protocol.specs.Steps.{drops, heeds, acts-with}
 use Rattle.protocol.specs.Certifying.{begun, begins, onDisclose, onAllowAny, offered, onCertificate}
-use Rattle.agreement.specs.Wires.{Wire, Correct, Sent, heard, heardOf, sends}
+use Rattle.agreement.specs.Wires.{Wire, Correct, heard, heardOf, sends}
 use Rattle.agreement.specs.Facts.{Formed}
 use Rattle.agreement.proofs.Elements.{not-any}
 use Rattle.agreement.proofs.Records.{sends-parts}

@@ -1,20 +1,18 @@
 -- What a board in range says of a process and of a record. Assumes nothing.
-use mathlib.Core.Path.{_≡_, refl, sym, ap, _∙_, subst}
-use mathlib.Core.Bool.{Bool, true, false, cond, _&&_}
-use mathlib.Core.List.{List}
+use mathlib.Core.Path.{_≡_, sym, _∙_, subst}
+use mathlib.Core.Bool.{true, false}
 use Prim.Native.Nat.{ℕ, _+_, _≤_, _<_}
 use native.Mathlib.Omega.{arith}
 use lib.Dec.{eqb, leb}
-use lib.ListN.{length, getD, take}
+use lib.ListN.{length, take}
 use lib.Seq.{getD-take, length-take-le}
 use Rattle.std.proofs.shelf.Tests.{and-parts, eqb-true, leb-true, cond-true, cond-false}
 use Rattle.counting.proofs.Every.{every-at}
-use Rattle.committee.specs.declared.membership.Committee.{Committee}
 use Rattle.wire.specs.declared.record.Record.{Record}
 use Rattle.wire.specs.Ranges.{inRange}
 use Rattle.protocol.specs.declared.process.Process.{Process}
 use Rattle.protocol.specs.Processes.{blankProcess, running}
-use Rattle.protocol.specs.Ranges.{between, standingFits, clockFits, votesFit, valuesFit, processFits, settingFits, tableFits, wireFits}
+use Rattle.protocol.specs.Ranges.{between, standingFits, processFits, settingFits, tableFits, wireFits}
 use Rattle.protocol.specs.Moments.{Moment, recordAt, noRecord}
 use Rattle.protocol.specs.Plans.{seat, boardFits}
 use Rattle.agreement.specs.Facts.{Formed}

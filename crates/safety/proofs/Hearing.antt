@@ -1,5 +1,5 @@
 -- A disclosure that is heeded: what the process has heard then, by what it counts. Assumes nothing.
-use mathlib.Core.Path.{_≡_, refl, sym, ap, _∙_}
+use mathlib.Core.Path.{_≡_, refl, sym, _∙_}
 use mathlib.Core.Bool.{Bool, true, false, cond, _&&_, _||_}
 use mathlib.Core.List.{List, [], _∷_}
 use mathlib.Core.Logic.{_⊎_, inl, inr}
@@ -11,10 +11,9 @@ use Rattle.std.specs.declared.option.Option.the-variants.{Some, None}
 use Rattle.std.proofs.shelf.Tests.{or-cases, or-left, or-right, and-parts, and-from, eqb-true, eq-eqb, false≢true}
 use Rattle.counting.specs.Counts.{any, countTo}
 use Rattle.counting.proofs.Sums.{count-same, sum-le}
-use Rattle.committee.specs.Sets.{contains, with-member}
+use Rattle.committee.specs.Sets.{contains}
 use Rattle.register.specs.Distinct.{seen}
 use Rattle.register.proofs.Gathering.{with-contains}
-use Rattle.wire.specs.declared.kind.Kind.the-variants.{Disclose}
 use Rattle.wire.specs.declared.record.Record.{Record}
 use Rattle.wire.specs.Kinds.{kindNumber}
 use Rattle.wire.specs.Heeding.{isHeeded}
@@ -22,7 +21,7 @@ use Rattle.protocol.specs.Moments.{delivered}
 use Rattle.protocol.specs.Plans.{asked, fromSenders}
 use Rattle.agreement.specs.Wires.{Wire, sends, posts, heard, heardOf}
 use Rattle.agreement.proofs.Elements.{any-from, all-unit, test-le, not-any}
-use Rattle.agreement.proofs.Records.{sends-parts, sends-from, posts-parts, posts-from}
+use Rattle.agreement.proofs.Records.{sends-parts, posts-parts, posts-from}
 use Rattle.safety.proofs.Marking.{heard-else}
 
 -- ---- a list of which one element is changed

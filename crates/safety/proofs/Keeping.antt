@@ -1,11 +1,10 @@
 -- Carrying out a good step keeps everything. Assumes nothing.
 use mathlib.Core.Path.{_≡_, refl, sym, ap, _∙_, subst}
-use mathlib.Core.Bool.{Bool, true, false}
-use mathlib.Core.List.{List, [], _∷_, _++_}
-use mathlib.Core.Logic.{_⊎_, inl, inr, _≢_}
-use Prim.Native.Nat.{ℕ, _+_, _≤_, _<_}
+use mathlib.Core.List.{[], _∷_, _++_}
+use mathlib.Core.Logic.{inl, inr, _≢_}
+use Prim.Native.Nat.{ℕ, _+_, _<_}
 use native.Mathlib.Omega.{arith}
-use lib.ListN.{length, getD, set, take, length-set}
+use lib.ListN.{length, getD, set, length-set}
 use lib.Seq.{getD-set-same, getD-set-other}
 use Rattle.std.specs.declared.option.Option.{Option}
 use Rattle.std.specs.declared.option.Option.the-variants.{Some, None}
@@ -15,12 +14,11 @@ use Rattle.committee.specs.declared.membership.Committee.{Committee}
 use Rattle.committee.specs.Thresholds.{weakQuorumOf}
 use Rattle.wire.specs.declared.record.Record.{Record}
 use Rattle.protocol.specs.declared.process.Process.{Process}
-use Rattle.protocol.specs.declared.step.Step.{Step}
-use Rattle.protocol.specs.Processes.{blankProcess, running}
-use Rattle.protocol.specs.Moments.{Moment, moment, seated, appended, noted, done, withShare}
+use Rattle.protocol.specs.Processes.{blankProcess}
+use Rattle.protocol.specs.Moments.{Moment, moment, seated, appended, noted, withShare}
 use Rattle.protocol.specs.Plans.{seat, usedOf}
 use Rattle.agreement.specs.Wires.{Wire, Correct, heardOf}
-use Rattle.agreement.specs.Facts.{Facts, Lawful}
+use Rattle.agreement.specs.Facts.{Facts}
 use Rattle.agreement.proofs.Growth.{facts-push}
 use Rattle.safety.specs.Ties.{Tied, Capped}
 use Rattle.safety.specs.Kept.{committeeOf, Matches, KeptBut, Kept, Sendable, Good, Room}

@@ -1,23 +1,18 @@
 -- The ties last: as a process advances, as records are appended, and as a record is marked. Assumes nothing.
-use mathlib.Core.Path.{_≡_, refl, sym, _∙_, subst, subst₂}
-use mathlib.Core.Bool.{Bool, true, false}
-use mathlib.Core.List.{List, [], _∷_, _++_}
+use mathlib.Core.Path.{_≡_, sym, _∙_}
+use mathlib.Core.List.{[], _∷_, _++_}
 use mathlib.Core.Logic.{_⊎_, inl, inr}
-use Prim.Native.Nat.{ℕ, _+_, _-_, _*_, _≤_, _<_}
+use Prim.Native.Nat.{ℕ, _+_, _-_, _≤_, _<_}
 use native.Mathlib.Omega.{arith}
 use lib.ListN.{length, getD, set}
-use Rattle.counting.specs.Counts.{any}
 use Rattle.committee.specs.declared.membership.Committee.{Committee}
-use Rattle.committee.specs.Views.{epochOf, viewOf}
 use Rattle.wire.specs.declared.record.Record.{Record}
-use Rattle.wire.specs.Kinds.{kindNumber}
 use Rattle.wire.specs.Shares.{statement}
 use Rattle.protocol.specs.declared.process.Process.{Process}
-use Rattle.agreement.specs.Wires.{Wire, Sent, Entered, sends, posts}
+use Rattle.agreement.specs.Wires.{Wire, sends, posts}
 use Rattle.agreement.specs.Facts.{Same}
-use Rattle.agreement.specs.Signing.{Quorum}
-use Rattle.agreement.proofs.Elements.{any-longer, any-push-cases, any-last}
-use Rattle.agreement.proofs.Records.{sends-parts, posts-parts, sends-from, sent-posted}
+use Rattle.agreement.proofs.Elements.{any-push-cases}
+use Rattle.agreement.proofs.Records.{sends-parts, posts-parts}
 use Rattle.agreement.proofs.Growth.{below-longer, below-set, quorum-more, set-sends, set-posts}
 use Rattle.safety.specs.Ties.{Reached, Past, Advances, Tied}
 

@@ -1,16 +1,13 @@
 -- What a leader sends is lawful, and leading, deciding and ticking keep the ties. Assumes nothing.
-use mathlib.Core.Path.{_≡_, refl, sym, ap, _∙_, subst}
-use mathlib.Core.Bool.{Bool, true, false}
-use mathlib.Core.List.{List, [], _∷_, _++_, append-nil}
-use mathlib.Core.Logic.{_⊎_, inl, inr}
+use mathlib.Core.Path.{_≡_, refl, sym, subst}
+use mathlib.Core.List.{[], _∷_, _++_, append-nil}
+use mathlib.Core.Logic.{inl, inr}
 use Prim.Native.Nat.{ℕ, _+_, _≤_, _<_}
 use native.Mathlib.Omega.{arith}
-use Rattle.counting.specs.Counts.{any}
 use Rattle.committee.specs.declared.membership.Committee.{Committee}
 use Rattle.committee.specs.Sets.{all}
 use Rattle.wire.specs.declared.kind.Kind.{Kind}
 use Rattle.wire.specs.declared.vouch.Vouch.{Vouch}
-use Rattle.wire.specs.declared.record.Record.{Record}
 use Rattle.wire.specs.Kinds.{kindNumber}
 use Rattle.wire.specs.Shares.{statement}
 use Rattle.protocol.specs.declared.process.Process.{Process}
@@ -18,13 +15,12 @@ use Rattle.protocol.specs.Processes.{with-core}
 use Rattle.protocol.specs.Sending.{sent}
 use Rattle.protocol.specs.Voting.{with-lead, with-decided}
 use Rattle.agreement.specs.Wires.{Wire}
-use Rattle.agreement.specs.Facts.{Facts, ByLeader}
+use Rattle.agreement.specs.Facts.{ByLeader}
 use Rattle.agreement.specs.Signing.{Quorum}
 use Rattle.agreement.proofs.Growth.{below-longer}
 use Rattle.safety.specs.Ties.{Past, Advances, Tied}
-use Rattle.safety.proofs.Sending.{Plain, lawful-plain, fresh}
+use Rattle.safety.proofs.Sending.{lawful-plain, fresh}
 use Rattle.safety.proofs.Addressing.{to-all, not-to}
-use Rattle.safety.proofs.Lasting.{past-keep}
 use Rattle.safety.proofs.Resting.{Ready, Rest, rest-of, rest-more, tie, advances-core}
 
 by-late : (k : ℕ) → ByLeader k → 7 ≤ k

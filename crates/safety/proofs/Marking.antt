@@ -1,22 +1,19 @@
 -- What marking a record as got and heeded does to what was heard. Assumes nothing.
 use mathlib.Core.Path.{_≡_, refl, sym, ap, ap₂, _∙_, subst}
-use mathlib.Core.Bool.{Bool, true, false, cond, _&&_, _||_}
-use mathlib.Core.List.{List}
-use Prim.Native.Nat.{ℕ, _+_, _≤_, _<_}
+use mathlib.Core.Bool.{Bool, true, false, _&&_}
+use Prim.Native.Nat.{ℕ, _≤_, _<_}
 use native.Mathlib.Omega.{arith}
 use lib.Dec.{eqb}
 use lib.ListN.{length, getD, set, take, length-set}
 use lib.Seq.{getD-take, length-take-le}
-use Rattle.std.proofs.shelf.Tests.{and-left, and-right, ne-eqb}
-use Rattle.counting.specs.Counts.{any, countTo}
+use Rattle.std.proofs.shelf.Tests.{and-right, ne-eqb}
+use Rattle.counting.specs.Counts.{countTo}
 use Rattle.counting.proofs.Booleans.{or-false}
 use Rattle.counting.proofs.Sums.{count-same}
-use Rattle.committee.specs.declared.sets.ProcessSet.{ProcessSet}
-use Rattle.committee.specs.Sets.{contains, with-member}
+use Rattle.committee.specs.Sets.{contains}
 use Rattle.committee.specs.Thresholds.{weakQuorumOf}
 use Rattle.register.proofs.Gathering.{with-contains}
 use Rattle.wire.specs.declared.record.Record.{Record}
-use Rattle.wire.specs.Kinds.{kindNumber}
 use Rattle.protocol.specs.Moments.{Moment, moment, delivered, marked, recordAt, noRecord}
 use Rattle.protocol.specs.Plans.{seat, usedOf}
 use Rattle.agreement.specs.Wires.{Wire, Correct, sends, heardOf}

@@ -1,36 +1,29 @@
 -- Every move keeps everything. Assumes nothing.
-use mathlib.Core.Path.{_≡_, refl, sym, ap, _∙_, subst}
-use mathlib.Core.Bool.{Bool, true, false, not, cond, _&&_, _||_}
-use mathlib.Core.List.{List, [], _∷_, _++_}
-use mathlib.Core.Logic.{_⊎_, inl, inr}
+use mathlib.Core.Path.{_≡_, refl, sym, ap, _∙_}
+use mathlib.Core.Bool.{Bool, true, false, not, _&&_}
 use Prim.Native.Nat.{ℕ, _+_, _≤_, _<_, min}
 use native.Mathlib.Omega.{arith}
-use lib.Dec.{eqb, leb, ltb}
+use lib.Dec.{leb, ltb}
 use lib.ListN.{length}
-use Rattle.std.specs.declared.option.Option.{Option}
 use Rattle.std.specs.declared.option.Option.the-variants.{Some, None}
 use Rattle.std.specs.declared.result.Result.{Result}
 use Rattle.std.specs.declared.result.Result.the-variants.{Ok, Err}
-use Rattle.std.proofs.shelf.Tests.{cond-both, cond-false, and-parts, or-parts, leb-true, leb-false, ltb-true, ltb-false, not-true, not-false, both-ways, false≢true}
+use Rattle.std.proofs.shelf.Tests.{cond-both, cond-false, or-parts, leb-false, ltb-false, not-false, false≢true}
 use Rattle.refusals.specs.declared.causes.Refusal.{Refusal}
-use Rattle.committee.specs.declared.membership.Committee.{Committee}
-use Rattle.committee.specs.Sets.{contains}
-use Rattle.committee.specs.Thresholds.{isCorrect}
 use Rattle.wire.specs.declared.kind.Kind.{Kind}
 use Rattle.wire.specs.declared.kind.Kind.the-variants.{Disclose, AllowAny, Certificate, EpochCompleted, EnterEpoch, ViewChange, Prepare, PrepareVote, Precommit, PrecommitVote, Commit, CommitVote, Decide}
 use Rattle.wire.specs.declared.record.Record.{Record}
 use Rattle.wire.specs.Kinds.{kindNumber}
 use Rattle.wire.specs.Claims.{claimOf, claimHolds}
 use Rattle.protocol.specs.declared.ballot.Ballot.the-variants as ballot
-use Rattle.protocol.specs.declared.process.Phase.{Phase}
 use Rattle.protocol.specs.declared.process.Process.{Process}
 use Rattle.protocol.specs.declared.step.Step.{Step}
 use Rattle.protocol.specs.Processes.{idle, running}
 use Rattle.protocol.specs.Steps.{drops}
-use Rattle.protocol.specs.Moments.{Moment, moment, marked, played, received, recordAt}
+use Rattle.protocol.specs.Moments.{Moment, moment, marked, received, recordAt}
 use Rattle.protocol.specs.Ranges.{processFits}
-use Rattle.protocol.specs.Plans.{seat, usedOf, boardFits, crowded, full, isFaulty, known, roomy as gated, asked, fromSenders, bestBacking, ruledBy, ruled, untimely, ofOneView, stale, undeliverable, admitted, deliverPlan}
-use Rattle.agreement.specs.Wires.{Wire, Correct}
+use Rattle.protocol.specs.Plans.{seat, usedOf, boardFits, crowded, full, isFaulty, known, roomy as gated, asked, fromSenders, bestBacking, ruledBy, untimely, ofOneView, stale, undeliverable, deliverPlan}
+use Rattle.agreement.specs.Wires.{Correct}
 use Rattle.agreement.specs.Facts.{Formed}
 use Rattle.safety.specs.Kept.{committeeOf, Kept}
 use Rattle.safety.proofs.Fitting.{Waits, waits-stand, size-is, seat-fits, record-formed}

@@ -1,15 +1,14 @@
 -- A delivery to a correct process keeps everything, whatever way it ends. Assumes nothing.
-use mathlib.Core.Path.{_≡_, refl, sym, ap, _∙_, subst}
-use mathlib.Core.Bool.{Bool, true, false, cond}
-use mathlib.Core.List.{List, [], _∷_, _++_}
-use mathlib.Core.Logic.{_⊎_, inl, inr}
+use mathlib.Core.Path.{_≡_, sym, subst}
+use mathlib.Core.Bool.{Bool, true, false}
+use mathlib.Core.List.{[], _∷_, _++_}
 use Prim.Native.Nat.{ℕ, _+_, _≤_, _<_}
 use native.Mathlib.Omega.{arith}
 use lib.ListN.{length, length-set}
 use lib.Seq.{length-take-le}
 use Rattle.std.specs.declared.option.Option.{Option}
 use Rattle.std.specs.declared.option.Option.the-variants.{Some, None}
-use Rattle.std.specs.declared.result.Result.the-variants.{Ok, Err}
+use Rattle.std.specs.declared.result.Result.the-variants.{Ok}
 use Rattle.std.proofs.shelf.Tests.{both-ways}
 use Rattle.counting.specs.Counts.{countTo}
 use Rattle.counting.proofs.Sums.{count-same}
@@ -23,9 +22,8 @@ use Rattle.protocol.specs.Moments.{Moment, moment, marked, received, delivered,
 use Rattle.protocol.specs.Plans.{seat, usedOf}
 use Rattle.protocol.specs.Steps.{drops, heeds, acts, acts-with, acts-twice}
 use Rattle.agreement.specs.Wires.{Wire, Correct, heardOf}
-use Rattle.agreement.specs.Facts.{Facts}
 use Rattle.safety.specs.Ties.{Tied, Capped}
-use Rattle.safety.specs.Kept.{committeeOf, Matches, KeptBut, Kept, Sendable, Good, Room}
+use Rattle.safety.specs.Kept.{committeeOf, KeptBut, Kept, Sendable, Good, Room}
 use Rattle.safety.proofs.Resting.{Ready}
 use Rattle.safety.proofs.Keeping.{kept-done}
 use Rattle.safety.proofs.Marking.{but-marked, tied-marked, used-marked, heard-unheeded}

@@ -1,11 +1,10 @@
 -- What a rule has to show of the records that it sends and the fields that it leaves. Assumes nothing.
-use mathlib.Core.Path.{_≡_, refl, sym, subst}
-use mathlib.Core.Bool.{Bool, true, false}
-use mathlib.Core.List.{List, [], _∷_, _++_, append-assoc}
-use mathlib.Core.Logic.{_⊎_, inl, inr}
-use Prim.Native.Nat.{ℕ, _+_, _-_, _*_, _≤_, _<_}
+use mathlib.Core.Path.{_≡_, refl, sym}
+use mathlib.Core.Bool.{false}
+use mathlib.Core.List.{_++_}
+use mathlib.Core.Logic.{inr}
+use Prim.Native.Nat.{ℕ, _+_, _-_, _*_, _≤_}
 use Rattle.std.specs.shelf.Lists.{All}
-use Rattle.counting.specs.Counts.{any}
 use Rattle.committee.specs.declared.membership.Committee.{Committee}
 use Rattle.committee.specs.Sets.{of-bits}
 use Rattle.committee.specs.Views.{epochOf, viewOf}
@@ -16,10 +15,10 @@ use Rattle.protocol.specs.declared.process.Synchronizer.{Synchronizer}
 use Rattle.protocol.specs.declared.process.ViewCore.{ViewCore}
 use Rattle.protocol.specs.declared.process.Process.{Process}
 use Rattle.protocol.specs.Processes.{idle, with-core}
-use Rattle.agreement.specs.Wires.{Wire, Sent, Entered, posts}
-use Rattle.agreement.specs.Facts.{Facts, Formed, Lawful}
+use Rattle.agreement.specs.Wires.{Wire, Entered}
+use Rattle.agreement.specs.Facts.{Formed, Lawful}
 use Rattle.agreement.specs.Signing.{Quorum}
-use Rattle.agreement.proofs.Growth.{Below, below-longer, quorum-more}
+use Rattle.agreement.proofs.Growth.{Below, quorum-more}
 use Rattle.safety.specs.Ties.{Past, Advances, Tied}
 use Rattle.safety.proofs.Sending.{past-own, told-own, locked-own, last-own}
 

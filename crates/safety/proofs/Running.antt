@@ -1,11 +1,10 @@
 -- Everything holds along every run, and with it the promises. Assumes nothing.
 use mathlib.Core.Path.{_≡_, refl, sym, ap, _∙_, subst}
-use mathlib.Core.Bool.{Bool, true, false}
+use mathlib.Core.Bool.{true, false}
 use mathlib.Core.List.{List, [], _∷_}
-use Prim.Native.Nat.{ℕ, _+_, _≤_, _<_}
+use Prim.Native.Nat.{ℕ, _+_, _<_}
 use native.Mathlib.Omega.{arith}
-use lib.Dec.{lit<}
-use lib.ListN.{length, getD, take, replicate}
+use lib.ListN.{length, getD, take}
 use Rattle.std.proofs.shelf.Lanes.{length-replicate, getD-replicate}
 use Rattle.std.proofs.shelf.Tests.{false≢true}
 use Rattle.std.specs.declared.result.Result.{Result}
@@ -18,19 +17,17 @@ use Rattle.committee.specs.Thresholds.{weakQuorumOf}
 use Rattle.register.specs.declared.ledger.Register.{Ghosts as RegisterMeans}
 use Rattle.register.specs.declared.pair.Pair.{Pair}
 use Rattle.register.specs.Pairs.{hasPair}
-use Rattle.wire.specs.Shares.{statement}
 use Rattle.protocol.specs.declared.process.Process.{Process}
 use Rattle.protocol.specs.declared.step.Step.{Step}
 use Rattle.protocol.specs.declared.step.Answer.{Answer}
-use Rattle.protocol.specs.Processes.{blankProcess, idle}
+use Rattle.protocol.specs.Processes.{blankProcess}
 use Rattle.protocol.specs.Moments.{Moment}
-use Rattle.protocol.specs.Plans.{seat, usedOf, tickPlan, proposePlan, expirePlan, deliverPlan, injectPlan}
+use Rattle.protocol.specs.Plans.{seat, usedOf}
 use Rattle.protocol.specs.Runs.{Sitting, momentOf, Makes, New, Move, Onward, Run}
 use Rattle.protocol.specs.Runs.Move.{ticks, proposes, expires, delivers, injects}
 use Rattle.protocol.specs.Runs.Onward.{here, then}
 use Rattle.agreement.specs.Wires.{Wire, Correct, Sent, sends, heardOf}
 use Rattle.agreement.specs.Facts.{Facts, Formed}
-use Rattle.agreement.specs.Signing.{signs}
 use Rattle.agreement.specs.Safety.{Safe}
 use Rattle.agreement.proofs.Elements.{any-gives}
 use Rattle.agreement.proofs.Records.{sends-parts, sent-posted}

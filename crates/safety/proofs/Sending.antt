@@ -1,9 +1,9 @@
 -- What a process's own records do to its ties, and when they are lawful. Assumes nothing.
-use mathlib.Core.Path.{_≡_, refl, sym, ap, _∙_, subst, subst₂}
-use mathlib.Core.Bool.{Bool, true, false, _||_}
+use mathlib.Core.Path.{_≡_, refl, sym, _∙_, subst, subst₂}
+use mathlib.Core.Bool.{Bool, true, false}
 use mathlib.Core.List.{List, [], _∷_, _++_}
 use mathlib.Core.Logic.{_⊎_, inl, inr}
-use Prim.Native.Nat.{ℕ, _+_, _≤_, _<_}
+use Prim.Native.Nat.{ℕ, _+_, _≤_}
 use native.Mathlib.Omega.{arith}
 use Rattle.std.specs.shelf.Lists.{All}
 use Rattle.std.proofs.shelf.Tests.{or-cases}
@@ -15,11 +15,10 @@ use Rattle.wire.specs.Kinds.{kindNumber}
 use Rattle.protocol.specs.declared.process.Process.{Process}
 use Rattle.protocol.specs.declared.process.Mark.{Mark}
 use Rattle.protocol.specs.Processes.{idle}
-use Rattle.agreement.specs.Wires.{Wire, Correct, Sent, sends, posts}
-use Rattle.agreement.specs.Facts.{Facts, Formed, Addressed, Lawful}
+use Rattle.agreement.specs.Wires.{Wire, Sent, sends, posts}
+use Rattle.agreement.specs.Facts.{Addressed, Lawful}
 use Rattle.agreement.proofs.Elements.{any-gives, any-longer, any-last, any-push-cases, not-any}
 use Rattle.agreement.proofs.Records.{sends-parts, posts-parts, sends-from, sent-posted}
-use Rattle.agreement.proofs.Growth.{facts-push}
 use Rattle.safety.specs.Ties.{Past, Advances, Tied}
 use Rattle.safety.proofs.Lasting.{past-keep}
 

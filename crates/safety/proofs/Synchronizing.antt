@@ -1,7 +1,7 @@
 -- The rules of the synchronizer keep the ties, and what they send is lawful. Assumes nothing.
-use mathlib.Core.Path.{_≡_, refl, sym, ap, _∙_, subst}
-use mathlib.Core.Bool.{Bool, true, false}
-use mathlib.Core.List.{List, [], _∷_, _++_, append-assoc}
+use mathlib.Core.Path.{_≡_, refl, sym, ap, subst}
+use mathlib.Core.Bool.{true}
+use mathlib.Core.List.{[], _∷_, _++_, append-assoc}
 use mathlib.Core.Logic.{_⊎_, inl, inr}
 use Prim.Native.Nat.{ℕ, _+_, _-_, _*_, _≤_, _<_}
 use native.Mathlib.Omega.{arith}
@@ -9,29 +9,24 @@ use native.Mathlib.Nat.{mul-le-mul-right, add-mul}
 use Rattle.std.proofs.shelf.Tests.{cases-lt}
 use Rattle.counting.specs.Counts.{any}
 use Rattle.committee.specs.declared.membership.Committee.{Committee}
-use Rattle.committee.specs.Views.{epochOf, viewOf}
-use Rattle.wire.specs.declared.kind.Kind.the-variants.{EpochCompleted, EnterEpoch, ViewChange}
-use Rattle.wire.specs.declared.record.Record.{Record}
-use Rattle.wire.specs.Kinds.{kindNumber}
+use Rattle.wire.specs.declared.kind.Kind.the-variants.{EpochCompleted, EnterEpoch}
 use Rattle.wire.specs.Shares.{statement}
 use Rattle.protocol.specs.declared.process.Process.{Process}
 use Rattle.protocol.specs.declared.board.Setting.{Setting}
-use Rattle.protocol.specs.Processes.{process-of, synchronizer-of, with-synchronizer}
+use Rattle.protocol.specs.Processes.{synchronizer-of, with-synchronizer}
 use Rattle.protocol.specs.Sending.{toAll, viewChange}
-use Rattle.protocol.specs.Certifying.{entering, viewTicks}
 use Rattle.protocol.specs.Synchronizing.{entered, viewHere, timerOff, spreadOff, awaiting}
-use Rattle.agreement.specs.Wires.{Wire, Entered, posts}
-use Rattle.agreement.specs.Facts.{Facts, ByLeader}
+use Rattle.agreement.specs.Wires.{Wire, posts}
 use Rattle.agreement.specs.Signing.{Quorum}
 use Rattle.agreement.proofs.Elements.{any-last, any-longer}
 use Rattle.agreement.proofs.Records.{posts-from}
 use Rattle.agreement.proofs.Growth.{below-longer, quorum-more}
 use Rattle.agreement.proofs.Words.{placed}
-use Rattle.safety.specs.Ties.{Past, Advances, Tied}
+use Rattle.safety.specs.Ties.{Tied}
 use Rattle.safety.proofs.Sending.{lawful-plain, fresh, fresh-behind}
 use Rattle.safety.proofs.Pasts.{past-4, past-5, past-6}
 use Rattle.safety.proofs.Addressing.{to-one, to-all, not-by, not-to}
-use Rattle.safety.proofs.Resting.{Ready, Rest, rest-of, rest-more, tie}
+use Rattle.safety.proofs.Resting.{Ready, rest-of, rest-more, tie}
 use Rattle.safety.proofs.Leading.{tie-alone}
 
 cases-le : (a b : ℕ) → (a ≤ b) ⊎ (b < a)

@@ -1,33 +1,28 @@
 -- The rules of the view core keep the ties, and what they send is lawful. Assumes nothing.
-use mathlib.Core.Path.{_≡_, refl, sym, ap, _∙_, subst}
-use mathlib.Core.Bool.{Bool, true, false}
-use mathlib.Core.List.{List, [], _∷_, _++_, append-nil}
+use mathlib.Core.Path.{_≡_, refl}
+use mathlib.Core.List.{[], _∷_, _++_}
 use mathlib.Core.Logic.{_⊎_, inl, inr}
 use Prim.Native.Nat.{ℕ, _+_, _≤_, _<_}
 use native.Mathlib.Omega.{arith}
 use Rattle.std.proofs.shelf.Tests.{cases-eq}
-use Rattle.counting.specs.Counts.{any}
 use Rattle.committee.specs.declared.membership.Committee.{Committee}
-use Rattle.wire.specs.declared.kind.Kind.{Kind}
-use Rattle.wire.specs.declared.kind.Kind.the-variants.{Prepare, PrepareVote, Precommit, PrecommitVote, Commit, CommitVote, Decide}
-use Rattle.wire.specs.declared.vouch.Vouch.{Vouch}
+use Rattle.wire.specs.declared.kind.Kind.the-variants.{PrepareVote, PrecommitVote, CommitVote}
 use Rattle.wire.specs.declared.record.Record.{Record}
-use Rattle.wire.specs.Kinds.{kindNumber}
 use Rattle.wire.specs.Shares.{statement}
 use Rattle.protocol.specs.declared.process.Process.{Process}
 use Rattle.protocol.specs.Processes.{mark, with-core}
-use Rattle.protocol.specs.Sending.{toAll, toOne, proposal}
-use Rattle.protocol.specs.Voting.{with-step, with-prepared, with-locked, with-decided, with-lead}
-use Rattle.agreement.specs.Wires.{Wire, Sent, sends, posts}
-use Rattle.agreement.specs.Facts.{Facts, Formed, Addressed, Backed, Lawful}
+use Rattle.protocol.specs.Sending.{toOne}
+use Rattle.protocol.specs.Voting.{with-step, with-prepared, with-locked}
+use Rattle.agreement.specs.Wires.{Wire, Sent, sends}
+use Rattle.agreement.specs.Facts.{Facts, Formed, Backed}
 use Rattle.agreement.specs.Signing.{Quorum}
 use Rattle.agreement.proofs.Elements.{any-gives}
 use Rattle.agreement.proofs.Records.{sends-parts, sent-posted}
 use Rattle.agreement.proofs.Growth.{below-longer}
-use Rattle.safety.specs.Ties.{Reached, Past, Advances, Tied}
-use Rattle.safety.proofs.Sending.{past-own, told-own, locked-new, last-new, lawful-plain, fresh}
-use Rattle.safety.proofs.Pasts.{past-7, past-8, past-9, past-10, past-11, past-12, past-13}
-use Rattle.safety.proofs.Addressing.{to-one, to-all, not-by, not-to}
+use Rattle.safety.specs.Ties.{Tied}
+use Rattle.safety.proofs.Sending.{past-own, told-own, locked-new, last-new, fresh}
+use Rattle.safety.proofs.Pasts.{past-8, past-10, past-12}
+use Rattle.safety.proofs.Addressing.{to-one, not-by}
 use Rattle.safety.proofs.Resting.{Ready, Rest, rest-of, rest-more, tie, advances-core}
 
 module _ (c : Committee) (leader : ℕ → ℕ) (ws : Wire) (g : Facts c leader ws) (p : ℕ) (q : Process) (t : Tied c ws p q) (member : p < c .n) where

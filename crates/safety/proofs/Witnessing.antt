@@ -1,9 +1,9 @@
 -- Two runs, played on the definitions: one that decides, and one that reaches epoch 2. Assumes nothing.
-use mathlib.Core.Path.{_≡_, refl, sym, ap, ap₂, fun-ext, subst, _∙_}
+use mathlib.Core.Path.{_≡_, refl, sym, ap, ap₂, fun-ext, _∙_}
 use mathlib.Core.Bool.{Bool, true, false, cond, _&&_, _||_}
 use mathlib.Core.List.{List, [], _∷_, _++_}
 use mathlib.Core.Logic.{inl, inr}
-use Prim.Native.Nat.{ℕ, _+_, _%_, _≤_, _<_}
+use Prim.Native.Nat.{ℕ, _+_, _%_}
 use native.Mathlib.Omega.{arith}
 use lib.Count.{ones}
 use lib.Dec.{eqb}
@@ -26,7 +26,6 @@ use Rattle.register.specs.Rows.{pair-of}
 use Rattle.register.proofs.Signing.{has-push, same-is}
 use Rattle.wire.specs.declared.record.Record.{Record}
 use Rattle.wire.specs.Shares.{shareOf}
-use Rattle.protocol.specs.declared.board.Table.{Table}
 use Rattle.protocol.specs.declared.step.Step.{Step}
 use Rattle.protocol.specs.Processes.{blankProcess}
 use Rattle.protocol.specs.Moments.{Signed, Moment, moment, signedOf, withPair, withStatement, noted, done, marked, played, received, told, noRecord}

@@ -4,7 +4,7 @@
 --   Tied c ws p q    process p, with the fields q, has sent what its fields say, and no more
 --   Capped c ws p q  until it runs, no value has a weak quorum among the disclosures that it has heeded
 use mathlib.Core.Path.{_≡_}
-use mathlib.Core.Bool.{Bool, true, false}
+use mathlib.Core.Bool.{true, false}
 use mathlib.Core.Logic.{_⊎_}
 use Prim.Native.Nat.{ℕ, _+_, _-_, _*_, _≤_, _<_}
 use Rattle.counting.specs.Counts.{any, countTo}

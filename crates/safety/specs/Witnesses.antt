@@ -5,7 +5,7 @@
 --   Some-advance   a run at whose end a correct process is in epoch 2
 use mathlib.Core.Path.{_≡_}
 use mathlib.Core.List.{List}
-use Prim.Native.Nat.{ℕ, _%_, _≤_, _<_}
+use Prim.Native.Nat.{ℕ, _%_, _<_}
 use Rattle.committee.specs.declared.rota.Rota.{Ghosts as RotaMeans}
 use Rattle.register.specs.declared.ledger.Register.{Ghosts as RegisterMeans}
 use Rattle.register.specs.declared.pair.Pair.{Pair}

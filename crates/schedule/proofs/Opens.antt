@@ -1,10 +1,10 @@
 -- OPEN with and without a ROTA behind it, once its own field is known. Assumes nothing.
-use mathlib.Core.Path.{_≡_, refl, sym, ap, _∙_}
+use mathlib.Core.Path.{_≡_, sym, ap, _∙_}
 use mathlib.Core.Bool.{false}
 use mathlib.Core.List.{List}
 use Prim.Native.Nat.{ℕ, _+_}
 use lib.Dec.{eqb}
-use lib.ListN.{length, getD}
+use lib.ListN.{length}
 use Rattle.std.proofs.shelf.Tests.{eq-eqb, ne-eqb, cond-true, cond-false}
 use Rattle.std.specs.declared.option.Option.the-variants.{Some, None}
 use Rattle.std.specs.declared.result.Result.the-variants.{Ok, Err}
@@ -13,7 +13,7 @@ use Rattle.schedule.specs.declared.field.Field.{Field}
 use Rattle.schedule.specs.declared.tags.Tag.{Tag}
 use Rattle.schedule.specs.Fields.{tagAt, behindAt, contentAt, knownAt, IsField, IsTagged}
 use Rattle.moves.specs.Orders.{Order}
-use Rattle.schedule.specs.Moves.{Step, opened, openAt, withRota, laterOrder, laterAt, madeAt}
+use Rattle.schedule.specs.Moves.{opened, openAt, withRota, laterOrder, laterAt, madeAt}
 
 pub behind-is : (bs : List ℕ) (at : ℕ) (field : Field) → IsField bs at field → field .byte + 3 + length (field .content .now) ≡ behindAt bs at
 behind-is bs at field is = λ i. is .byte i + 3 + is .long i

@@ -11,7 +11,7 @@ use Rattle.std.specs.declared.option.Option.the-variants.{Some, None}
 use Rattle.std.specs.declared.result.Result.the-variants.{Ok, Err}
 use Rattle.moves.specs.declared.faults.Fault.{Fault}
 use Rattle.moves.specs.declared.orders.Placed.{Placed}
-use Rattle.moves.specs.Orders.{Order, orderOf, PlacedOrder, placedOf}
+use Rattle.moves.specs.Orders.{orderOf, placedOf}
 use Rattle.schedule.specs.Moves.{moveAt}
 use Rattle.schedule.specs.Reading.{Reading, readingFrom, Appends}
 use Rattle.schedule.proofs.Unroll.{unrolled, reading-at}

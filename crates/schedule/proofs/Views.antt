@@ -1,9 +1,9 @@
 -- The ways in which a move begins at a place, each with what it says of the fields there. Assumes nothing.
 use mathlib.Core.Path.{_≡_, refl, sym, ap, subst, _∙_}
-use mathlib.Core.Bool.{Bool, true, false, cond}
-use mathlib.Core.Logic.{_⊎_, inl, inr, ⊎-elim}
+use mathlib.Core.Bool.{true, false}
+use mathlib.Core.Logic.{_⊎_, inr, ⊎-elim}
 use mathlib.Core.List.{List}
-use Prim.Native.Nat.{ℕ, _+_, _≤_, _<_}
+use Prim.Native.Nat.{ℕ, _≤_}
 use native.Mathlib.Omega.{arith}
 use lib.Dec.{eqb, ltb}
 use Rattle.std.proofs.shelf.Tests.{cases-bool, cases-eq, eqb-true, eqb-false, eq-eqb, ne-eqb, lt-ltb, cond-true, cond-false}
@@ -19,7 +19,7 @@ use Rattle.schedule.specs.declared.tags.Tag.the-variants.{Open, Rota, Propose,
 use Rattle.schedule.specs.Tags.{tagOf, rightLength}
 use Rattle.schedule.specs.Fields.{tagAt, lengthAt, behindAt, wholeAt, contentAt, knownAt, known, knownAs, cutFault, moveFault}
 use Rattle.moves.specs.Orders.{Order}
-use Rattle.schedule.specs.Moves.{Step, opened, injected, openAt, withRota, laterOrder, laterAt, madeAt, startedAt, moveAt}
+use Rattle.schedule.specs.Moves.{opened, withRota, laterOrder, laterAt, madeAt, startedAt, moveAt}
 use Rattle.schedule.specs.Laid.{inPlace, faultOf, faultAt}
 use Rattle.schedule.proofs.Whole.{split, known-ok}
 

@@ -5,7 +5,7 @@ use mathlib.Core.Logic.{_⊎_, inl, inr, ⊎-elim}
 use mathlib.Core.List.{List}
 use Prim.Native.Nat.{ℕ, _+_, _-_, _≤_}
 use native.Mathlib.Omega.{arith}
-use lib.ListN.{length, take, drop, length-drop}
+use lib.ListN.{length, drop, length-drop}
 use Rattle.std.proofs.shelf.Lists.{length-take-le}
 use Rattle.std.proofs.shelf.Tests.{leb-true, cond-true}
 use Rattle.std.specs.declared.option.Option.{Option}
@@ -15,7 +15,7 @@ use Rattle.refusals.specs.declared.causes.Refusal.the-variants.{WrongLength}
 use Rattle.schedule.specs.declared.field.Field.{Field}
 use Rattle.schedule.specs.declared.tags.Tag.{Tag}
 use Rattle.schedule.specs.Tags.{rightLength, tagOf}
-use Rattle.schedule.specs.Fields.{tagAt, lengthAt, wholeAt, behindAt, contentAt, knownAt, known, knownAs, moveFault, IsField, IsTagged}
+use Rattle.schedule.specs.Fields.{lengthAt, wholeAt, behindAt, contentAt, knownAt, known, knownAs, moveFault, IsField, IsTagged}
 
 pub within : (bs : List ℕ) (at : ℕ) → wholeAt bs at ≡ true → behindAt bs at ≤ length bs
 within bs at whole = leb-true (behindAt bs at) (length bs) whole

@@ -1,11 +1,8 @@
-use mathlib.Core.Path.{_≡_, ap, _∙_}
+use mathlib.Core.Path.{ap, _∙_}
 use native.Mathlib.Omega.{arith}
-use Prim.Native.Nat.{_≤_}
-use lib.ListN.{length, getD}
 use Rattle.std.proofs.shelf.Lists.{getD-past}
 use Rattle.std.proofs.shelf.Results.{err-from-errBy}
 use Rattle.std.specs.declared.option.Option.the-variants.{Some, None}
-use Rattle.schedule.specs.Fields.{tagAt, behindAt}
 use Rattle.schedule.specs.Moves.{opened}
 use Rattle.schedule.proofs.Opens.{behind-is, rota-faulty, with-rota, without-rota}
 use Rattle.schedule.proofs.reader.open_move.Needs as need
