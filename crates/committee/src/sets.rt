@@ -1,5 +1,4 @@
 // A set of processes.
-ghost use lib.Count.{ones};
 ghost use mathlib.Core.Path.{_≡_};
 ghost use Rattle.committee.specs.Sets.{contains, with-member, size};
 

@@ -1,6 +1,6 @@
 // How many processes each rule asks for. No other place writes these numbers.
 ghost use mathlib.Core.Path.{_≡_};
-ghost use Prim.Native.Nat.{_-_, _^_};
+ghost use Prim.Native.Nat.{_-_};
 ghost use Rattle.committee.specs.Sets.{all};
 ghost use Rattle.committee.specs.Thresholds.{quorumOf, weakQuorumOf, disclosureQuorumOf, Quorums-meet, One-correct, Many-correct};
 use crate::membership::Committee;

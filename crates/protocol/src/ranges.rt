@@ -1,6 +1,5 @@
 // Whether a process, a board and the used part of a wire are in range.
 ghost use mathlib.Core.Path.{_≡_};
-ghost use lib.ListN.{take};
 ghost use Rattle.counting.specs.Counts.{every};
 ghost use Rattle.wire.specs.Ranges.{inRange};
 ghost use Rattle.protocol.specs.Ranges.{standingFits, clockFits, votesFit, valuesFit, processFits, settingFits, tableFits, wireFits};

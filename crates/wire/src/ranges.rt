@@ -3,7 +3,6 @@ ghost use mathlib.Core.Path.{_≡_};
 ghost use Rattle.wire.specs.Ranges.{numberFits, valueFits, backFits, vouchFits, setsFit, inRange};
 use crate::kind::Kind;
 use crate::record::Record;
-use crate::vouch::Vouch;
 use committee::Committee;
 use committee::views::LAST_VIEW;
 
