@@ -1,4 +1,6 @@
 // What every move is tested for: the board and the process, whether a record is taken, and room for what is appended.
+#![tactic(auto)]
+
 pub mod seating;
 pub mod taking;
 

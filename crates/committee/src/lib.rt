@@ -1,4 +1,6 @@
 // The committee: who sits in it, how many make a quorum, how views fall into epochs, and who leads.
+#![tactic(auto)]
+
 pub mod list_rota;
 pub mod membership;
 pub mod rota;

@@ -1,4 +1,6 @@
 // The edge cases of the rule book, in one list, with one proof that the definitions answer them as the rule book does.
+#![tactic(auto)]
+
 ghost use Rattle.std.specs.Prelude.{◌≡◌, true, length};
 ghost use Rattle.edge_cases.specs.Cases.{cases, all_hold};
 

@@ -1,4 +1,6 @@
 // Lists the schedule on standard input: a line for each move, then the line of the fault, if there is one.
+#![tactic(auto)]
+
 use listing::list;
 use std::io::Read;
 

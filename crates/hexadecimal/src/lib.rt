@@ -1,4 +1,6 @@
 // Hexadecimal text: digits with blanks between them, and comments from `#` to the end of the line.
+#![tactic(auto)]
+
 ghost use Rattle.std.specs.Prelude.{◌≡◌, IfOk};
 ghost use Rattle.hexadecimal.specs.Bytes.{blank, in_comment, stripped, digit_of, byte_of, paired, bytes_of, held_by};
 ghost use Rattle.hexadecimal.specs.Laws.{ReadsBack, SkipsComments};

@@ -1,4 +1,6 @@
 // The listing of a schedule: what the board's programs print of it.
+#![tactic(auto)]
+
 pub mod lines;
 
 pub use lines::list;

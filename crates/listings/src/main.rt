@@ -1,5 +1,7 @@
 // Lists every schedule of a table: each line is printed, and behind a schedule what is listed of it.
 // A schedule is written in hexadecimal, with blanks between its digits and a comment behind `#`.
+#![tactic(auto)]
+
 ghost use Rattle.std.specs.Prelude.{◌≡◌, ◌<◌, not, ◌&&◌, length, IfSome, ◌==◌, slice_index};
 
 use anyhow::anyhow;

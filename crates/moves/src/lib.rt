@@ -1,4 +1,6 @@
 // What a schedule orders, what is wrong with one, and the text of both.
+#![tactic(auto)]
+
 pub mod faults;
 pub mod orders;
 pub mod text;

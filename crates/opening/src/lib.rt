@@ -1,4 +1,6 @@
 // Opening a board.
+#![tactic(auto)]
+
 ghost use Rattle.std.specs.Prelude.{length, IfOk};
 ghost use Rattle.protocol.specs.Opening.{Opens};
 ghost use Rattle.safety.specs.Promises.{Begins};

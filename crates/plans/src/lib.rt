@@ -1,4 +1,6 @@
 // What each move comes to: the first cause of a refusal, or a step.
+#![tactic(auto)]
+
 pub mod deliveries;
 pub mod own_moves;
 

@@ -1,4 +1,6 @@
 // Plays moves on an open board, one after another, and writes what the board answers.
+#![tactic(auto)]
+
 pub mod making;
 pub mod outcome;
 pub mod processes;

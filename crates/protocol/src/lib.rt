@@ -1,4 +1,6 @@
 // The types of a sitting, and its rules: each computes from plain values what a move comes to.
+#![tactic(auto)]
+
 pub mod ballot;
 pub mod board;
 pub mod draft;

@@ -1,4 +1,6 @@
 // What can be asked of a board. Asking changes nothing.
+#![tactic(auto)]
+
 pub mod asking;
 pub mod decisions;
 

@@ -1,4 +1,6 @@
 // What a plan reads off a board and a wire: whether they are in range, and how many senders a process heeds.
+#![tactic(auto)]
+
 pub mod counts;
 pub mod ranges;
 

@@ -1,4 +1,6 @@
 // Every cause for which a call or the schedule reader says no, with its number.
+#![tactic(auto)]
+
 ghost use Rattle.std.specs.Prelude.{◌≡◌};
 ghost use Rattle.refusals.specs.Numbers.{refusal_number};
 

@@ -1,4 +1,6 @@
 // Registers of who has signed what, and the count of distinct processes.
+#![tactic(auto)]
+
 pub mod attests;
 pub mod distinct;
 pub mod ledger;

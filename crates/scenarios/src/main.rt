@@ -1,4 +1,6 @@
 // Plays the examples that `index.txt` names: what the board prints of NAME.hex has to be what NAME.out holds.
+#![tactic(auto)]
+
 use anyhow::anyhow;
 use exam::play_schedule;
 use hexadecimal::bytes_of;

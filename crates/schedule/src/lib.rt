@@ -1,4 +1,6 @@
 // Reads a schedule, a string of bytes, as the moves of a sitting: fields first, then moves.
+#![tactic(auto)]
+
 mod contents;
 pub mod field;
 mod numbers;

@@ -1,4 +1,6 @@
 // Plays the schedule on standard input, and prints what the board answers.
+#![tactic(auto)]
+
 use exam::play_schedule;
 use std::io::Read;
 

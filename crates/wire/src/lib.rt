@@ -1,4 +1,6 @@
 // The wire: records that processes send, what each signs, claims and costs, and how it is printed.
+#![tactic(auto)]
+
 pub mod claim;
 pub mod claims;
 pub mod heeded;
