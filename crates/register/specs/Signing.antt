@@ -80,13 +80,16 @@ is_decides x y = (
 derived_is : (y x : Pair) (r : Bool) → (r ≡ ghosts.eq y x) → r ≡ is_pair x.process x.statement y
 derived_is y x r h = search rules
 
-each_is : (xs : List Pair) (x : Pair) (r : Bool) → IsAnyAnswer (λ y t. t ≡ ghosts.eq y x) xs r → IsAnyAnswer (λ y t. Decides t (y ≡ x)) xs r
-each_is xs x true h = (h.0, h.1, λ d. Decides-at _ _ (derived_is _ x true (h.2 d)) (is_decides x _))
-each_is xs x false h = λ k d a b. Decides-at _ _ (derived_is _ x false (h k d a b)) (is_decides x _)
+abbrev same_pair : Pair → Pair → Bool
+same_pair y x = is_pair x.process x.statement y
+
+each_is : (xs : List Pair) (x : Pair) (r : Bool) → IsAnyAnswer (λ y t. ghosts.eq y x ≡ t) xs r → IsAnyAnswer (λ y t. same_pair y x ≡ t) xs r
+each_is xs x true h = (h.0, h.1, λ d. sym (derived_is _ x true (sym (h.2 d))))
+each_is xs x false h = λ k d a b. sym (derived_is _ x false (sym (h k d a b)))
 
 -- what `contains` answers
-pub contains_has : (xs : List Pair) (x : Pair) (r : Bool) → IsAnyAnswer (λ y t. t ≡ ghosts.eq y x) xs r → r ≡ has_pair xs x.process x.statement
+pub contains_has : (xs : List Pair) (x : Pair) (r : Bool) → IsAnyAnswer (λ y t. ghosts.eq y x ≡ t) xs r → r ≡ has_pair xs x.process x.statement
 unfolding any
 contains_has xs x r h =
-    same_from_decides r (has_pair xs x.process x.statement) (contains_decides nat_eq Decides-eqb xs x r (each_is xs x r h))
+    same_from_decides r (has_pair xs x.process x.statement) (contains_decides same_pair (λ y z. is_decides z y) xs x r (each_is xs x r h))
     (Decides-by_or (is_pair x.process x.statement) (λ y. y ≡ x) (λ ys. has_pair ys x.process x.statement) (is_decides x) refl (λ _ _. refl) xs)

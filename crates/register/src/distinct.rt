@@ -8,7 +8,7 @@ use committee::ProcessSet;
 
 // The processes, 0 to 30, that have a record which counts.
 fn gather<Q, T: Attests<Q>>(items: &[T], query: &Q) -> ProcessSet
-    ensures { Gathered (seen process (λ x. counts x query.now) items.now) result }
+    ensures { Gathered (seen T.process (λ x. T.counts x query.now) items.now) result }
 {
     let mut found = ProcessSet { bits: 0 };
     for x in items {
@@ -21,14 +21,14 @@ fn gather<Q, T: Attests<Q>>(items: &[T], query: &Q) -> ProcessSet
 }
 
 pub fn distinct_processes<Q, T: Attests<Q>>(items: &[T], query: &Q) -> ProcessSet
-    ensures { Gathered (seen process (λ x. counts x query.now) items.now) result }
+    ensures { Gathered (seen T.process (λ x. T.counts x query.now) items.now) result }
 {
     gather(items, query)
 }
 
 // How many they are.
 pub fn count_distinct<Q, T: Attests<Q>>(items: &[T], query: &Q) -> u32
-    ensures { result ≡ count_to (seen process (λ x. counts x query.now) items.now) 31 }
+    ensures { result ≡ count_to (seen T.process (λ x. T.counts x query.now) items.now) 31 }
 {
     distinct_processes(items, query).len()
 }

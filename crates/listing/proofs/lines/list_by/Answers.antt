@@ -5,7 +5,7 @@ use Rattle.listing.proofs.lines.list_by.Goals as goal
 
 pub returns-in-Ok : goal.returns-in-Ok
 returns-in-Ok c = record {
-  lists = listed (reading c.args.bytes.now) _ _ _ c.requires c.as-slice.ensures.value _ _ c.in-ok-write-moves.ensures c.in-Ok.ensures.reads;
+  lists = listed (reading c.args.bytes.now) _ _ _ c.requires c.as_slice.ensures.value _ _ c.in_ok-write-moves.ensures c.in-Ok.ensures.reads;
   laid = c.read-end.ensures.laid;
 }
 
@@ -13,7 +13,7 @@ pub returns : goal.returns
 returns c = record {
   lists =
       IfOk-weaker c.write-stop.result _ _
-      (λ _ w. listed-fault (reading c.args.bytes.now) _ _ _ c.requires c.as-slice.ensures.value _ _ c.in-ok-write-moves.ensures c.in-Err.stop _ c.in-Err.ensures.reads w)
+      (λ _ w. listed-fault (reading c.args.bytes.now) _ _ _ c.requires c.as_slice.ensures.value _ _ c.in_ok-write-moves.ensures c.in-Err.stop _ c.in-Err.ensures.reads w)
       c.write-stop.ensures;
   laid = c.read-end.ensures.laid;
 }

@@ -7,7 +7,7 @@ use Rattle.listing.proofs.Listed.{one_line}
 use Rattle.listing.proofs.lines.write_moves.Goals as goal
 
 pub loop-placed-preserved : goal.loop-placed-preserved
-loop-placed-preserved c = one_line _ _ _ c.args.moves.now _ _ c.loop-placed-test.true c.loop-placed.invariant c.in-ok-writeln.ensures.bytes
+loop-placed-preserved c = one_line _ _ _ c.args.moves.now _ _ c.loop-placed-test.true c.loop-placed.invariant c.in_ok-writeln.ensures.bytes
 
 pub returns : goal.returns
 returns c =

@@ -7,10 +7,10 @@ use Rattle.protocol.specs.Plans.{injecting}
 use Rattle.plans.proofs.Taking.{past, faulty_as}
 use Rattle.plans.proofs.own_moves.plan_inject.Goals as goal
 
-pub returns-in-err-find-room : goal.returns-in-err-find-room
-returns-in-err-find-room g c =
-    let p = err_from_is_err_and c.from-residual-in-err-find-room.result c.from-residual-in-err-find-room.ensures.1 in
-    let s = c.in-ok-seat.ensures in
+pub returns-in_err-find-room : goal.returns-in_err-find-room
+returns-in_err-find-room g c =
+    let p = err_from_is_err_and c.from-residual-in_err-find-room.result c.from-residual-in_err-find-room.ensures.1 in
+    let s = c.in_ok-seat.ensures in
     let b = c.args.board.now in
     let m = moment b.table c.args.wire.now (signed_of (g.G.Register.pairs c.args.register.now)) in
     let faulty = ap not (faulty_as b.table c.args.process _ _ s.2 c.contains.ensures ∙ c.if-not-contains.false) in
@@ -19,4 +19,4 @@ returns-in-err-find-room g c =
     rw (p.1, p.2)
     (past _ _ _ _ (ap not s.0)
     (past _ _ _ _ s.1
-    (past _ _ _ _ faulty (past _ _ _ _ fits (c.in-err-find-room.ensures _) ∙ ap (injecting (g.R.Rota.size b.rota) g.G.Register.room m c.args.process) drafted))))
+    (past _ _ _ _ faulty (past _ _ _ _ fits (c.in_err-find-room.ensures _) ∙ ap (injecting (g.R.Rota.size b.rota) g.G.Register.room m c.args.process) drafted))))

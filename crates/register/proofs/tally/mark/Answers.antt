@@ -10,7 +10,7 @@ returns-in-Some c =
     record {
       items =
           put_there (vec_items c.args.rows.now) c.in-Some.i c.args.pair.process _ c.index.result.now c.args.pair.statement
-          (subst F c.as-slice.ensures.value c.in-Some.ensures) c.index.ensures c.with-signers.ensures;
+          (subst F c.as_slice.ensures.value c.in-Some.ensures) c.index.ensures c.with-signers.ensures;
       len = search rules;
       capacity = refl;
     }
@@ -21,7 +21,7 @@ returns-in-None c =
     record {
       items =
           put_new (vec_items c.args.rows.now) _ c.args.pair.process _ c.args.pair.statement
-          (subst L c.as-slice.ensures.value c.in-None.ensures) c.with-signers-in-None.ensures c.push-reserved.ensures.items;
+          (subst L c.as_slice.ensures.value c.in-None.ensures) c.with-signers-in-None.ensures c.push_reserved.ensures.items;
       len = search rules;
       capacity = search rules;
     }

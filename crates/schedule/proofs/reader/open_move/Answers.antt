@@ -6,18 +6,18 @@ use Rattle.schedule.proofs.Opens.{behind_is, rota_faulty, with_rota_lem, without
 use Rattle.schedule.proofs.reader.open_move.Goals as goal
 use Rattle.schedule.proofs.reader.open_move.Goals.{else-end-bytes-via-then-end-bytes+else-bytes-end-eq-ROTA, else-end-bytes-via-else-end-bytes}
 
-pub returns-in-err-rota : goal.returns-in-err-rota
-returns-in-err-rota c =
+pub returns-in_err-rota : goal.returns-in_err-rota
+returns-in_err-rota c =
     let p = err_from_is_err_and c.from-residual.result c.from-residual.ensures.1 in
     rw (p.1, p.2)
-    (rota_faulty _ _ _ (c.end-end.ensures ∙ behind_is _ _ _ c.requires.field) _ c.if-bytes-end-eq-ROTA.true c.in-err-rota.ensures)
+    (rota_faulty _ _ _ (c.end-end.ensures ∙ behind_is _ _ _ c.requires.field) _ c.if-bytes-end-eq-ROTA.true c.in_err-rota.ensures)
 
 pub returns-then-bytes-end-eq-ROTA : goal.returns-then-bytes-end-eq-ROTA
 returns-then-bytes-end-eq-ROTA c =
-    with_rota_lem _ _ _ (c.end-end.ensures ∙ behind_is _ _ _ c.requires.field) c.in-ok-rota.rota _ _ _
+    with_rota_lem _ _ _ (c.end-end.ensures ∙ behind_is _ _ _ c.requires.field) c.in_ok-rota.rota _ _ _
     c.if-bytes-end-eq-ROTA.true
-    c.in-ok-rota.ensures
-    (c.opening.ensures ∙ ap (λ l. opened l (Some c.in-ok-rota.rota.content.now)) c.requires.field.content)
+    c.in_ok-rota.ensures
+    (c.opening.ensures ∙ ap (λ l. opened l (Some c.in_ok-rota.rota.content.now)) c.requires.field.content)
     c.end.ensures
 
 pub returns : goal.returns

@@ -7,23 +7,23 @@ use Rattle.safety.proofs.Readying.{inject_doable}
 use Rattle.safety.proofs.Going.{played-refused, played-done, goes_on}
 use Rattle.board.proofs.carrying.moves.injecting.Goals as goal
 
-pub returns-in-err-step : goal.returns-in-err-step
-returns-in-err-step g c =
+pub returns-in_err-step : goal.returns-in_err-step
+returns-in_err-step g c =
     let p = err_from_is_err_and c.from-residual.result c.from-residual.ensures.1 in
     let a = sitting c.args.board.now c.args.wire.now c.args.register.now in
-    let x = played-refused g.G.Register a _ c.args.process _ c.in-err-step.ensures in
+    let x = played-refused g.G.Register a _ c.args.process _ c.in_err-step.ensures in
     rw (p.1, p.2) (record { exact = x; keeps = goes_on g.R.Rota g.G.Register g.met.R.Rota.inside a a (injects c.args.process c.args.draft _ x) })
 
 pub carry-out-requires : goal.carry-out-requires
 carry-out-requires g c =
     let a = sitting c.args.board.now c.args.wire.now c.args.register.now in
     let m = moment_of g.G.Register a in
-    let d = subst (Doable g.G.Register.room c.args.process m) (sym c.in-ok-step.ensures)
+    let d = subst (Doable g.G.Register.room c.args.process m) (sym c.in_ok-step.ensures)
     (inject_doable (g.R.Rota.size c.args.board.now.rota) g.G.Register.room m c.args.process c.args.draft) in
     record { known = d.0; ready = d.1 }
 
 pub returns : goal.returns
 returns g c =
     let a = sitting c.args.board.now c.args.wire.now c.args.register.now in
-    let x = played-done g.G.Register a _ c.args.process c.in-ok-step.step _ c.in-ok-step.ensures c.carry-out.ensures refl in
+    let x = played-done g.G.Register a _ c.args.process c.in_ok-step.step _ c.in_ok-step.ensures c.carry-out.ensures refl in
     record { exact = x; keeps = goes_on g.R.Rota g.G.Register g.met.R.Rota.inside a _ (injects c.args.process c.args.draft _ x) }

@@ -13,7 +13,7 @@ loop-process-preserved g c plain =
     let list = c.args.self.now.0.now in
     let index = c.loop-process.process-index in
     let before = c.loop-process.invariant plain in
-    let one = c.write.ensures.writes before.plain (ap is_ok c.in-ok-write.was) in
+    let one = c.write.ensures.writes before.plain (ap is_ok c.in_ok-write.was) in
     has_written_of_eq g.W.Write.write_str_gives _ _ _ _
     (flat_map_more spaced [] (take index list) (get_or list index 0) ∙ sym (ap (flat_map spaced) (take_more list index 0 c.loop-process-test.true)))
     (has_written_append g.W.Write.write_str_gives _ _ _ _ _ before one)

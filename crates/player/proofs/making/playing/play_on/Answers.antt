@@ -22,11 +22,11 @@ loop-placed-preserved g c =
     let before = string_bytes c.args.text.now in
     let S : List PlacedOrder → Type 0 = λ rest. Sofar g.R.Rota g.G.Register a os rest k d before (string_bytes l.text) in
     let here = subst S (ap (map placed_of) (drop_more c.args.moves.now l.placed-index _ c.loop-placed-test.true)) l.invariant.1 in
-    let written = c.in-ok-writeln.ensures.bytes ∙ ap (λ (o : Outcome). string_bytes l.text ++ line_of k o) c.of-outcome.ensures in
+    let written = c.in_ok-writeln.ensures.bytes ∙ ap (λ (o : Outcome). string_bytes l.text ++ line_of k o) c.of-outcome.ensures in
     (omega (arith, l.invariant.0), and_then g.R.Rota g.G.Register a os before _ _ k d _ _ _ _ here c.make.ensures written)
 
-pub returns-in-err-writeln : goal.returns-in-err-writeln
-returns-in-err-writeln g c =
+pub returns-in_err-writeln : goal.returns-in_err-writeln
+returns-in_err-writeln g c =
     record {
       plays = IfOk-from_err _ _ c.from-residual.ensures.0;
       keeps = all-go_on g.R.Rota g.G.Register g.met.R.Rota.inside _ _ (onward_on g.R.Rota g.G.Register _ _ _ c.loop-placed.invariant.1.onward c.make.ensures.onward);

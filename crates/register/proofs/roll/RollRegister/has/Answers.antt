@@ -5,5 +5,5 @@ use Rattle.register.proofs.roll.RollRegister.has.Goals as goal
 
 pub returns : goal.returns
 returns c =
-    contains_has c.as-slice.result.now c.args.pair c.contains.result c.contains.ensures.cases
-    ∙ ap (λ xs. has_pair xs c.args.pair.process c.args.pair.statement) c.as-slice.ensures.value
+    contains_has c.as_slice.result.now c.args.pair c.contains.result c.contains.ensures.cases
+    ∙ ap (λ xs. has_pair xs c.args.pair.process c.args.pair.statement) c.as_slice.ensures.value

@@ -10,7 +10,7 @@ pub returns-in-Some : goal.returns-in-Some
 returns-in-Some c =
     let rows = vec_items c.args.self.now.rows in
     let F : List Row → Type 0 = λ xs. Found xs c.in-Some.i c.args.statement in
-    let found = subst F c.as-slice.ensures.value c.in-Some.ensures in
+    let found = subst F c.as_slice.ensures.value c.in-Some.ensures in
     gathered_row rows c.args.statement _ c.args.self.now.fine
     (ap (λ (x : Row). x.signers) (get_or_read rows c.in-Some.i c.index.result.now found.0 c.index.ensures no_row) ∙ found_signers rows c.in-Some.i c.args.statement found)
 
@@ -19,4 +19,4 @@ returns-in-None c =
     let rows = vec_items c.args.self.now.rows in
     let L : List Row → Type 0 = λ xs. listed xs c.args.statement ≡ false in
     gathered_row rows c.args.statement _ c.args.self.now.fine
-    (sym (unlisted_signers rows c.args.statement (subst L c.as-slice.ensures.value c.in-None.ensures)))
+    (sym (unlisted_signers rows c.args.statement (subst L c.as_slice.ensures.value c.in-None.ensures)))
