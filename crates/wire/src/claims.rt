@@ -48,7 +48,7 @@ impl Record {
 
     // Whether the register has the signers that the record claims.
     pub fn holds<G: Register>(&self, committee: &Committee, register: &G) -> bool
-        ensures { result ≡ claim_holds (claim_of committee.now self.now) (has_pair (pairs register.now)) }
+        ensures { result ≡ claim_holds (claim_of committee.now self.now) (has_pair (G.pairs register.now)) }
     {
         match self.claim(committee) {
             Claim::Nothing => true,

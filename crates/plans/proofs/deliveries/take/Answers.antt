@@ -12,9 +12,9 @@ returns g c =
     let leads = g.R.Rota.leader c.args.board.now.rota in
     let has = has_pair (g.G.Register.pairs c.args.register.now) in
     let ruled = c.rule.ensures
-    ∙ ap (λ (ws : List Record). ruledOn leads d.seat.setting d.seat.process d.seat.number ws has c.args.index d.delivered.kind d.delivered) c.used-of-used.ensures in
+    ∙ ap (λ (ws : List Record). ruledOn leads d.seat.setting d.seat.process d.seat.number ws has c.args.index d.delivered.kind d.delivered) c.used_of-used.ensures in
     let admitted = c.in_ok-admit.ensures in
-    let roomy = c.in_ok-find-room.ensures in
+    let roomy = c.in_ok-find_room.ensures in
     past _ _ _ _ admitted.0
     (past _ _ _ _ admitted.1
-    (past _ _ _ _ roomy.0 (past _ _ _ _ roomy.1 (past _ _ _ _ (sym c.is-stale.ensures ∙ c.if-is-stale.false) (ap (λ (z : Step). Ok z) ruled)))))
+    (past _ _ _ _ roomy.0 (past _ _ _ _ roomy.1 (past _ _ _ _ (sym c.is_stale.ensures ∙ c.if-is_stale.false) (ap (λ (z : Step). Ok z) ruled)))))

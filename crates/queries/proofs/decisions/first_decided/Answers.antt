@@ -7,8 +7,8 @@ use Rattle.queries.proofs.decisions.first_decided.Goals as goal
 pub loop-number-init : goal.loop-number-init
 loop-number-init c = refl
 
-pub returns-then-has-decided : goal.returns-then-has-decided
-returns-then-has-decided c =
+pub returns-then-has_decided : goal.returns-then-has_decided
+returns-then-has_decided c =
     let t = c.args.table.now in
     let p = c.loop-number.number in
     let long : length t.processes ≡ 31 = search rules in

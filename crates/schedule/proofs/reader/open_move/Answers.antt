@@ -8,7 +8,7 @@ use Rattle.schedule.proofs.reader.open_move.Goals.{else-end-bytes-via-then-end-b
 
 pub returns-in_err-rota : goal.returns-in_err-rota
 returns-in_err-rota c =
-    let p = err_from_is_err_and c.from-residual.result c.from-residual.ensures.1 in
+    let p = err_from_is_err_and c.from_residual.result c.from_residual.ensures.1 in
     rw (p.1, p.2)
     (rota_faulty _ _ _ (c.end-end.ensures ∙ behind_is _ _ _ c.requires.field) _ c.if-bytes-end-eq-ROTA.true c.in_err-rota.ensures)
 

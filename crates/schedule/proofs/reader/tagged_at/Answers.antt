@@ -5,7 +5,7 @@ use Rattle.schedule.proofs.reader.tagged_at.Goals as goal
 
 pub returns-in_err-tag : goal.returns-in_err-tag
 returns-in_err-tag c =
-    let p = err_from_is_err_and c.from-residual-in_err-tag.result c.from-residual-in_err-tag.ensures.1 in
+    let p = err_from_is_err_and c.from_residual-in_err-tag.result c.from_residual-in_err-tag.ensures.1 in
     rw (p.1, p.2) (known_is _ _ _ c.in_ok-field.ensures ∙ sym c.in_err-tag.ensures)
 
 pub returns : goal.returns

@@ -6,7 +6,7 @@ use Rattle.schedule.proofs.reading.read_from.Goals as goal
 
 pub returns : goal.returns
 returns c = record {
-  reads = subst (λ whole. ReadsAll whole (vec_items c.args.moves.now) c.read-on.result (vec_items c.read-on.new.moves)) (λ i. reading_from (c.starting-at.ensures.0 i).now (c.starting-at.ensures.1 i)) c.read-on.ensures;
+  reads = subst (λ whole. ReadsAll whole (vec_items c.args.moves.now) c.read_on.result (vec_items c.read_on.new.moves)) (λ i. reading_from (c.starting_at.ensures.0 i).now (c.starting_at.ensures.1 i)) c.read_on.ensures;
   unrolled = unrolled c.args.bytes.now;
-  laid = laid_out c.args.bytes.now (λ i. (c.type-inv.bytes i).fits);
+  laid = laid_out c.args.bytes.now (λ i. (c.type_inv.bytes i).fits);
 }

@@ -9,13 +9,13 @@ use Rattle.board.proofs.carrying.moves.proposing.Goals as goal
 
 pub returns-in_err-step : goal.returns-in_err-step
 returns-in_err-step g c =
-    let p = err_from_is_err_and c.from-residual.result c.from-residual.ensures.1 in
+    let p = err_from_is_err_and c.from_residual.result c.from_residual.ensures.1 in
     let a = sitting c.args.board.now c.args.wire.now c.args.register.now in
     let x = played-refused g.G.Register a _ c.args.process _ c.in_err-step.ensures in
     rw (p.1, p.2) (record { exact = x; keeps = goes_on g.R.Rota g.G.Register g.met.R.Rota.inside a a (proposes c.args.process c.args.value _ x) })
 
-pub carry-out-requires : goal.carry-out-requires
-carry-out-requires g c =
+pub carry_out-requires : goal.carry_out-requires
+carry_out-requires g c =
     let a = sitting c.args.board.now c.args.wire.now c.args.register.now in
     let m = moment_of g.G.Register a in
     let d = subst (Doable g.G.Register.room c.args.process m) (sym c.in_ok-step.ensures)
@@ -25,5 +25,5 @@ carry-out-requires g c =
 pub returns : goal.returns
 returns g c =
     let a = sitting c.args.board.now c.args.wire.now c.args.register.now in
-    let x = played-done g.G.Register a _ c.args.process c.in_ok-step.step _ c.in_ok-step.ensures c.carry-out.ensures refl in
+    let x = played-done g.G.Register a _ c.args.process c.in_ok-step.step _ c.in_ok-step.ensures c.carry_out.ensures refl in
     record { exact = x; keeps = goes_on g.R.Rota g.G.Register g.met.R.Rota.inside a _ (proposes c.args.process c.args.value _ x) }

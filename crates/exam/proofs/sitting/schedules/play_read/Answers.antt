@@ -11,4 +11,4 @@ pub returns-in-None : goal.returns-in-None
 returns-in-None c =
     let fault = c.args.fault in
     let S : List Placed → Type 0 = λ xs. Sits (map placed_of xs) fault (fault_line fault) in
-    IfOk-weaker c.write-fault.result _ _ (λ _ e. (fault_line fault, e, subst S (sym (nil_from_length c.args.moves.now c.in-None.ensures.cases)) refl)) c.write-fault.ensures
+    IfOk-weaker c.write_fault.result _ _ (λ _ e. (fault_line fault, e, subst S (sym (nil_from_length c.args.moves.now c.in-None.ensures.cases)) refl)) c.write_fault.ensures

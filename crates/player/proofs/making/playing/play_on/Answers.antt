@@ -28,7 +28,7 @@ loop-placed-preserved g c =
 pub returns-in_err-writeln : goal.returns-in_err-writeln
 returns-in_err-writeln g c =
     record {
-      plays = IfOk-from_err _ _ c.from-residual.ensures.0;
+      plays = IfOk-from_err _ _ c.from_residual.ensures.0;
       keeps = all-go_on g.R.Rota g.G.Register g.met.R.Rota.inside _ _ (onward_on g.R.Rota g.G.Register _ _ _ c.loop-placed.invariant.1.onward c.make.ensures.onward);
     }
 

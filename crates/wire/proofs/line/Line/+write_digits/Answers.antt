@@ -13,21 +13,21 @@ returns-then-n-lt10 t c = record {
   used = omega (arith, digits_one c.args.n c.if-n-lt10.true, c.push.ensures.used);
 }
 
-pub write-digits-requires : goal.write-digits-requires
-write-digits-requires t c =
+pub write_digits-requires : goal.write_digits-requires
+write_digits-requires t c =
     let small : c.args.n < 2 ^ 64 = omega arith in
     (omega arith, omega (arith, digits_more c.args.n c.if-n-lt10.false small, c.requires))
 
 pub push-requires-else-n-lt10 : goal.push-requires-else-n-lt10
 push-requires-else-n-lt10 t c =
     let small : c.args.n < 2 ^ 64 = omega arith in
-    omega (arith, digits_more c.args.n c.if-n-lt10.false small, c.requires, c.write-digits.ensures.used)
+    omega (arith, digits_more c.args.n c.if-n-lt10.false small, c.requires, c.write_digits.ensures.used)
 
 pub returns-else-n-lt10 : goal.returns-else-n-lt10
 returns-else-n-lt10 t c =
     let small : c.args.n < 2 ^ 64 = omega arith in
     record {
-      text = number_more (text c.args.self.now) (text c.write-digits.new.self) (text c.push-else-n-lt10.new.self) c.args.n
-          c.if-n-lt10.false small c.write-digits.ensures.text c.push-else-n-lt10.ensures.text;
-      used = omega (arith, digits_more c.args.n c.if-n-lt10.false small, c.push-else-n-lt10.ensures.used, c.write-digits.ensures.used);
+      text = number_more (text c.args.self.now) (text c.write_digits.new.self) (text c.push-else-n-lt10.new.self) c.args.n
+          c.if-n-lt10.false small c.write_digits.ensures.text c.push-else-n-lt10.ensures.text;
+      used = omega (arith, digits_more c.args.n c.if-n-lt10.false small, c.push-else-n-lt10.ensures.used, c.write_digits.ensures.used);
     }

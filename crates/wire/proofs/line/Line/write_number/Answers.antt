@@ -2,8 +2,8 @@ use Rattle.std.proofs.Common.{◌^◌, ◌<◌, arith}
 use Rattle.std.proofs.lemmas.Fmt.{length-decimal-le}
 use Rattle.wire.proofs.line.Line.write_number.Goals as goal
 
-pub write-digits-requires : goal.write-digits-requires
-write-digits-requires g c =
+pub write_digits-requires : goal.write_digits-requires
+write_digits-requires g c =
     let small : c.args.n < 2 ^ 64 = omega arith in
     omega (arith, length-decimal-le g.row.DIGITS c.args.n c.requires.some c.requires.small small, c.requires.room)
 
@@ -11,6 +11,6 @@ pub returns : goal.returns
 returns g c =
     let small : c.args.n < 2 ^ 64 = omega arith in
     record {
-      text = c.write-digits.ensures.text;
-      used = omega (arith, length-decimal-le g.row.DIGITS c.args.n c.requires.some c.requires.small small, c.write-digits.ensures.used);
+      text = c.write_digits.ensures.text;
+      used = omega (arith, length-decimal-le g.row.DIGITS c.args.n c.requires.some c.requires.small small, c.write_digits.ensures.used);
     }
