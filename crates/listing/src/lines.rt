@@ -25,7 +25,10 @@ fn write_stop(stop: Stop, text: &mut String) -> fmt::Result
     ensures { OnOk result (WritesFault stop (string_bytes text.old) (string_bytes text.new)) }
 {
     match stop {
-        Stop::Fault(fault) => writeln!(text, "{fault}"),
+        Stop::Fault(fault) => {
+            writeln!(text, "{fault}")?;
+            Ok(())
+        }
         Stop::NoMemory => Err(fmt::Error),
     }
 }

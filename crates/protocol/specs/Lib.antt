@@ -10,3 +10,4 @@ pub mod Plans
 pub mod Runs
 pub mod Ready
 pub mod Opening
+pub mod Drafts
