@@ -11,3 +11,4 @@ pub mod Runs
 pub mod Ready
 pub mod Opening
 pub mod Drafts
+pub mod Rulings
