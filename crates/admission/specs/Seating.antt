@@ -16,7 +16,8 @@ use Rattle.protocol.specs.declared.seat.Seat.{Seat}
 use Rattle.protocol.specs.declared.step.Step.{Step}
 use Rattle.protocol.specs.Ranges.{table_fits, wire_fits}
 use Rattle.protocol.specs.Moments.{Moment, record_at}
-use Rattle.protocol.specs.Plans.{seat, crowded, full, roomy, untimely, ahead}
+use Rattle.protocol.specs.Plans.{seat, crowded, full, roomy, untimely}
+use Rattle.protocol.specs.Rulings.{ahead}
 
 abbrev pub in_order : ℕ → Table → List Record → Bool
 in_order n t w = n == t.setting.committee.n && (table_fits t && wire_fits t w)

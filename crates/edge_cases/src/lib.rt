@@ -4,6 +4,12 @@
 ghost use Rattle.std.specs.Prelude.{◌≡◌, true, length};
 ghost use Rattle.edge_cases.specs.Cases.{cases, all_hold};
 
+pub mod moves;
+pub mod sittings;
+
+pub use moves::edge_cases_of_moves;
+pub use sittings::{decided_value, epoch_reached};
+
 // How many edge cases there are; each of them holds.
 pub fn edge_cases() -> usize
     ensures count { result ≡ length cases }

@@ -23,7 +23,7 @@ use Rattle.protocol.specs.Plans.{best_from, tick_plan, propose_plan, expire_plan
 use Rattle.protocol.specs.Runs.{Sitting, sitting, moment_of, Makes, Move, Onward, New}
 use Rattle.protocol.specs.Runs.Move.{ticks, proposes, expires, delivers}
 use Rattle.protocol.specs.Runs.Onward.{here, then}
-use Rattle.safety.specs.Witnesses.{in_turn, pairs_held, SomeDecide, SomeAdvance}
+use Rattle.safety.specs.Witnesses.{in_turn, pairs_held, four, SomeDecide, SomeAdvance}
 
 -- ---- a list of pairs as a register
 
@@ -128,13 +128,6 @@ onward (c ∷ cs) a b o = onward cs a (after c b) (then o (move c b))
 
 -- ---- the two runs
 
-none_faulty : ones 0 ≡ 0
-unfolding ones
-none_faulty = refl
-
-four : Committee
-four = record { n = 4; f = 1; faulty = of_bits 0; low = omega arith; high = omega arith; whole = refl; inside = omega arith; few = omega (arith, none_faulty) }
-
 start : Played
 start = sitting (record { table = record { setting = record { committee = four; delay = 10; overlap = 5 }; processes = replicate 31 blank_process; used = 0 }; rota = tt }) (replicate 32 no_record) []
 
@@ -178,3 +171,8 @@ some_advance =
       member = (omega arith, refl);
       epoch = refl;
     }
+
+-- the value that the first decides
+pub decide_seven : some_decide.value ≡ 7
+unfolding some_decide
+decide_seven = refl

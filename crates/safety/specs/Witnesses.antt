@@ -1,9 +1,14 @@
 -- Sittings that there are: the promises are not kept by there being no runs. Assumes nothing.
 --   in_turn         four processes that lead in turn, process v mod 4 in view v
 --   pairs_held      a register that is its list of pairs
---   SomeDecide    a run at whose end two correct processes have decided one value
---   SomeAdvance   a run at whose end a correct process is in epoch 2
-use Rattle.std.specs.Prelude.{◌≡◌, ℕ, ◌%◌, ◌<◌, List}
+--   four            a committee of four, none of them faulty
+--   SomeDecide      a run at whose end two correct processes have decided one value
+--   SomeAdvance     a run at whose end a correct process is in epoch 2
+use Rattle.std.specs.Prelude.{◌≡◌, ℕ, ◌%◌, ◌<◌, List, refl}
+use Rattle.std.proofs.Common.{lit<, lit≤}
+use lib.Count.{ones}
+use Rattle.committee.specs.declared.membership.Committee.{Committee}
+use Rattle.committee.specs.Sets.{of_bits}
 use Rattle.committee.specs.declared.rota.Rota.{Ghosts as RotaMeans}
 use Rattle.register.specs.declared.ledger.Register.{Ghosts as RegisterMeans}
 use Rattle.register.specs.declared.pair.Pair.{Pair}
@@ -17,6 +22,10 @@ in_turn = record { size = λ _. 4; leader = λ _ v. v % 4 }
 
 abbrev pub pairs_held : RegisterMeans (List Pair)
 pairs_held = record { room = 2048; pairs = λ xs. xs }
+
+unfoldable pub four : Committee
+unfolding ones
+four = record { n = 4; f = 1; faulty = of_bits 0; low = lit≤ tt; high = lit≤ tt; whole = refl; inside = lit< tt; few = lit≤ tt }
 
 pub record SomeDecide : Type 0 where
   pub end : Sitting (Unit {0}) (List Pair)
