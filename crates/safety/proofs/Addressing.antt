@@ -1,5 +1,5 @@
 -- To whom the records of correct processes go, and that they are well formed. Assumes nothing.
-use Rattle.std.proofs.Common.{◌≡◌, ℕ, ◌+◌, ◌-◌, ◌<◌, ◌≤◌, Bool, false, cond, ◌||◌, eqb, ltb, refl, ap, ◌∙◌, inl, inr, arith, lit<}
+use Rattle.std.proofs.Common.{◌≡◌, ℕ, ◌+◌, ◌<◌, ◌≤◌, Bool, false, cond, ◌||◌, eqb, ltb, refl, ap, ◌∙◌, inl, inr, arith, lit<}
 use lib.Count.{ones-ones}
 use Rattle.std.proofs.lemmas.Bool.{lt-ltb}
 use Rattle.counting.proofs.Sums.{count_more, count_none}

@@ -1,5 +1,5 @@
 -- What a certificate that holds says of the wire, where the register holds just what the records sign. Assumes nothing.
-use Rattle.std.proofs.Common.{◌≡◌, ℕ, zero, suc, ◌-◌, ◌<◌, ◌≤◌, Bool, true, false, cond, ◌&&◌, ◌||◌, eqb, ltb, List, [], ◌∷◌, length, get_or, None, sym, refl, ap, ◌∙◌, inl, inr, le_trans, arith}
+use Rattle.std.proofs.Common.{◌≡◌, ℕ, zero, suc, ◌<◌, ◌≤◌, Bool, true, cond, ◌&&◌, ◌||◌, eqb, ltb, List, [], ◌∷◌, length, get_or, None, sym, refl, ap, ◌∙◌, inl, inr, le_trans, arith}
 use Rattle.std.proofs.lemmas.Bool.{leb-true, lt-ltb, le-ltb, cases_lt, cases_eq, eq-eqb, ne_eqb, cond-true, cond-false, false≢true, or_cases, or_left, or_right, and_parts, and_from, eqb-true}
 use Rattle.counting.specs.Counts.{any}
 use Rattle.counting.proofs.Sums.{count_same, sum-le}

@@ -1,5 +1,5 @@
 -- The ties last: as a process advances, as records are appended, and as a record is marked. Assumes nothing.
-use Rattle.std.proofs.Common.{◌≡◌, ℕ, ◌+◌, ◌-◌, ◌<◌, ◌≤◌, ◌⊎◌, [], ◌∷◌, ◌++◌, length, get_or, set, sym, ◌∙◌, inl, inr, arith}
+use Rattle.std.proofs.Common.{◌≡◌, ℕ, ◌<◌, ◌≤◌, ◌⊎◌, [], ◌∷◌, ◌++◌, length, get_or, set, sym, ◌∙◌, inl, inr, arith}
 use Rattle.committee.specs.declared.membership.Committee.{Committee}
 use Rattle.wire.specs.declared.record.Record.{Record}
 use Rattle.wire.specs.Shares.{statement}

@@ -1,5 +1,5 @@
 -- The rules of the view core keep the ties, and what they send is lawful. Assumes nothing.
-use Rattle.std.proofs.Common.{◌≡◌, ℕ, ◌+◌, ◌<◌, ◌≤◌, ◌⊎◌, [], ◌∷◌, ◌++◌, refl, inl, inr, arith}
+use Rattle.std.proofs.Common.{◌≡◌, ℕ, ◌<◌, ◌≤◌, ◌⊎◌, [], ◌∷◌, ◌++◌, refl, inl, inr, arith}
 use Rattle.std.proofs.lemmas.Bool.{cases_eq}
 use Rattle.committee.specs.declared.membership.Committee.{Committee}
 use Rattle.wire.specs.declared.kind.Kind.TheVariants.{PrepareVote, PrecommitVote, CommitVote}

@@ -1,14 +1,11 @@
 -- Two runs, played on the definitions: one that decides, and one that reaches epoch 2. Assumes nothing.
 use Rattle.std.proofs.Common.{◌≡◌, ℕ, ◌+◌, ◌%◌, Bool, true, false, cond, ◌&&◌, ◌||◌, eqb, List, [], ◌∷◌, ◌++◌, length, replicate, Some, None, Ok, Err, Option, Result, sym, refl, ap, ◌∙◌, ap₂, inl, inr, arith}
 use mathlib.Core.Path.{fun_ext}
-use lib.Count.{ones}
 use Rattle.std.proofs.lemmas.Bool.{and_parts, eqb-true, false≢true, cases_Bool}
 use Rattle.std.proofs.lemmas.List.{length_push}
 use Rattle.refusals.specs.declared.causes.Refusal.{Refusal}
 use Rattle.counting.specs.Counts.{any, every, sum_to}
 use Rattle.counting.proofs.Booleans.{or_false}
-use Rattle.committee.specs.declared.membership.Committee.{Committee}
-use Rattle.committee.specs.Sets.{of_bits}
 use Rattle.register.specs.declared.pair.Statement.{Statement}
 use Rattle.register.specs.declared.pair.Pair.{Pair}
 use Rattle.register.specs.Pairs.{same_statement, has_pair}

@@ -2,8 +2,8 @@ use Rattle.std.proofs.Common.{◌≡◌, length, rules}
 use Rattle.safety.proofs.Fitting.{table_seat}
 use Rattle.admission.proofs.seating.seated.Goals as goal
 
-pub invariant-of-result : goal.invariant-of-result
-invariant-of-result c =
+pub invariant_of-result : goal.invariant_of-result
+invariant_of-result c =
     let long : length c.args.table.now.processes ≡ 31 = search rules in
     let t = table_seat c.args.table.now c.requires.fits c.args.process c.requires.member long in
     search rules
