@@ -1,7 +1,8 @@
 // The plan of deliver: what stands in the way, and else the rule of the record's kind.
 ghost use Rattle.std.specs.Prelude.{◌≡◌, ◌<◌, ◌≤◌, true, length, take};
 ghost use Rattle.protocol.specs.Moments.{moment, signed_of, record_at};
-ghost use Rattle.protocol.specs.Plans.{ruledOn, taken, deliver_plan};
+ghost use Rattle.protocol.specs.Plans.{deliver_plan};
+ghost use Rattle.protocol.specs.Rulings.{ruled_on, taken};
 ghost use Rattle.protocol.specs.Ranges.{wire_fits};
 ghost use Rattle.register.specs.Pairs.{has_pair};
 ghost use Rattle.admission.specs.Seating.{is_undeliverable};
@@ -54,7 +55,7 @@ fn rule<R: Rota, G: Register>(
     index: u16,
     delivery: &Delivery,
 ) -> Step
-    ensures { result ≡ ruledOn (R.Rota.leader rota.now) delivery.now.seat.setting delivery.now.seat.process delivery.now.seat.number used.now (has_pair (G.Register.pairs register.now)) index delivery.now.delivered.kind delivery.now.delivered }
+    ensures { result ≡ ruled_on (R.Rota.leader rota.now) delivery.now.seat.setting delivery.now.seat.process delivery.now.seat.number used.now (has_pair (G.Register.pairs register.now)) index delivery.now.delivered.kind delivery.now.delivered }
 {
     let record = delivery.delivered;
     let process = delivery.seat.number;

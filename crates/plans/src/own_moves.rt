@@ -1,7 +1,9 @@
 // The moves that a process makes of its own: propose, tick and expire, and inject for a faulty one.
-ghost use Rattle.std.specs.Prelude.{◌≡◌};
+ghost use Rattle.std.specs.Prelude.{◌≡◌, ◌+◌, ◌≤◌};
 ghost use Rattle.protocol.specs.Moments.{moment, signed_of};
-ghost use Rattle.protocol.specs.Plans.{tick_plan, propose_plan, is_due, deadline_of, viewExpiryOf, spreadExpiryOf, expiryOf, expire_plan, inject_plan};
+ghost use Rattle.protocol.specs.Plans.{tick_plan, propose_plan, is_due, deadline_of, expire_plan, inject_plan};
+ghost use Rattle.protocol.specs.Drafts.{draft_as};
+ghost use Rattle.protocol.specs.Rulings.{view_expiry_of, spread_expiry_of, expiry_of};
 
 use admission::{find_room, seat_at};
 use committee::Rota;
@@ -71,7 +73,8 @@ fn is_due(process: &Process, timer: u8) -> bool
 
 // The view timer has expired, unless no epoch follows.
 fn expire_view<R: Rota>(board: &Board<R>, seat: &Seat) -> Result<Step, Refusal>
-    ensures { result ≡ viewExpiryOf (R.Rota.leader board.now.rota) seat.now.setting seat.now.process seat.now.number }
+    requires { seat.now.process.synchronizer.place ≤ seat.now.setting.committee.f + 1 }
+    ensures { result ≡ view_expiry_of (R.Rota.leader board.now.rota) seat.now.setting seat.now.process seat.now.number }
 {
     let at = seat.process.synchronizer;
     let committee = seat.setting.committee;
@@ -83,7 +86,7 @@ fn expire_view<R: Rota>(board: &Board<R>, seat: &Seat) -> Result<Step, Refusal>
 }
 
 fn expire_spread<R: Rota>(board: &Board<R>, seat: &Seat) -> Step
-    ensures { result ≡ spreadExpiryOf (R.Rota.leader board.now.rota) seat.now.setting seat.now.process seat.now.number }
+    ensures { result ≡ spread_expiry_of (R.Rota.leader board.now.rota) seat.now.setting seat.now.process seat.now.number }
 {
     let first = seat
         .setting
@@ -93,7 +96,8 @@ fn expire_spread<R: Rota>(board: &Board<R>, seat: &Seat) -> Step
 }
 
 fn expired<R: Rota>(board: &Board<R>, seat: &Seat, timer: u8) -> Result<Step, Refusal>
-    ensures { result ≡ expiryOf (R.Rota.leader board.now.rota) seat.now.setting seat.now.process seat.now.number timer }
+    requires { seat.now.process.synchronizer.place ≤ seat.now.setting.committee.f + 1 }
+    ensures { result ≡ expiry_of (R.Rota.leader board.now.rota) seat.now.setting seat.now.process seat.now.number timer }
 {
     if timer == 1 {
         expire_view(board, seat)
@@ -134,7 +138,7 @@ pub fn plan_inject<R: Rota, G: Register>(
     process: u8,
     draft: Draft,
 ) -> Result<Step, Refusal>
-    ensures { result ≡ inject_plan (R.Rota.size board.now.rota) G.Register.room (moment board.now.table wire.now (signed_of (G.Register.pairs register.now))) process draft }
+    ensures { result ≡ inject_plan (R.Rota.size board.now.rota) G.Register.room (moment board.now.table wire.now (signed_of (G.Register.pairs register.now))) process (draft_as draft) }
 {
     let seat = seat_at(board, wire, process)?;
     if !seat.setting.committee.faulty.contains(process) {
