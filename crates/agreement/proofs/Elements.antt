@@ -1,6 +1,6 @@
 -- Elements of a list that pass a test, in a list that grows or changes at one place. Assumes nothing.
 use Rattle.std.proofs.Common.{◌≡◌, ℕ, zero, suc, ◌<◌, ◌≤◌, Bool, true, false, cond, ◌||◌, ◌⊎◌, List, [], ◌∷◌, ◌++◌, length, get_or, set, count_by, sym, refl, ap, ◌∙◌, inl, inr, arith}
-use Rattle.std.specs.List.{AllByRecursion as All}
+use Rattle.std.specs.List.{AllByRecursion}
 use Rattle.std.proofs.ByRecursion.{All-weaker}
 use Rattle.std.proofs.lemmas.List.Sums.{sum_by-cons}
 use Rattle.std.proofs.lemmas.Bool.{cases_Bool, cond-true, cond-false, or_cases, or_parts, or_left, or_right, false≢true}
@@ -16,23 +16,23 @@ test_le true b h = omega (arith, ap (λ (c : Bool). cond {A = ℕ} c 1 0) (h ref
 test_le false b h = omega arith
 
 module _ {X : Type 0} where
-  pub all-unit : (xs : List X) → All (λ x. Unit {0}) xs
+  pub all-unit : (xs : List X) → AllByRecursion (λ x. Unit {0}) xs
   all-unit [] = tt
   all-unit (x ∷ xs) = (tt, all-unit xs)
 
-  pub all_both : (P Q : X → Type 0) (xs : List X) → All P xs → All Q xs → All (λ x. P x × Q x) xs
+  pub all_both : (P Q : X → Type 0) (xs : List X) → AllByRecursion P xs → AllByRecursion Q xs → AllByRecursion (λ x. P x × Q x) xs
   all_both P Q [] a b = tt
   all_both P Q (x ∷ xs) a b = ((a.0, b.0), all_both P Q xs a.1 b.1)
 
   -- what follows from an element that passes
-  pub any-gives : (P : X → Type 0) (Q : Type 0) (s : X → Bool) (xs : List X) → All P xs → ((x : X) → P x → s x ≡ true → Q) → any s xs ≡ true → Q
+  pub any-gives : (P : X → Type 0) (Q : Type 0) (s : X → Bool) (xs : List X) → AllByRecursion P xs → ((x : X) → P x → s x ≡ true → Q) → any s xs ≡ true → Q
   unfolding any
   any-gives P Q s [] a h e = absurd (false≢true e)
   any-gives P Q s (x ∷ xs) a h e =
       elim (or_cases (s x) (any s xs) e) [ inl i ↦ h x a.0 i | inr i ↦ any-gives P Q s xs a.1 h i ]
 
   -- where each element that passes s passes t
-  pub any-from : (P : X → Type 0) (s t : X → Bool) (xs : List X) → All P xs → ((x : X) → P x → s x ≡ true → t x ≡ true) → any s xs ≡ true → any t xs ≡ true
+  pub any-from : (P : X → Type 0) (s t : X → Bool) (xs : List X) → AllByRecursion P xs → ((x : X) → P x → s x ≡ true → t x ≡ true) → any s xs ≡ true → any t xs ≡ true
   unfolding any
   any-from P s t [] a h e = e
   any-from P s t (x ∷ xs) a h e =
@@ -71,7 +71,7 @@ module _ {X : Type 0} where
         (elim (or_cases (t x) (any t xs) e) [ inl i ↦ omega (arith, cond-true {A = ℕ} (t x) 1 0 i) | inr i ↦ omega (arith, any-one xs i) ])
 
   -- what an element passes, some element of the list does
-  pub all_any : (xs : List X) → All (λ x. (t : X → Bool) → t x ≡ true → any t xs ≡ true) xs
+  pub all_any : (xs : List X) → AllByRecursion (λ x. (t : X → Bool) → t x ≡ true → any t xs ≡ true) xs
   unfolding any
   all_any [] = tt
   all_any (x ∷ xs) = (

@@ -1,6 +1,6 @@
 -- From shares to the records that sign them. Assumes nothing.
 use Rattle.std.proofs.Common.{◌≡◌, ℕ, ◌<◌, true, cond, ◌&&◌, eqb, ◌⊎◌, refl, ap, ◌∙◌, subst, inl, inr, lit<}
-use Rattle.std.specs.List.{AllByRecursion as All}
+use Rattle.std.specs.List.{AllByRecursion}
 use Rattle.std.proofs.lemmas.Bool.{and_parts, eqb-true, false≢true}
 use Rattle.committee.specs.declared.membership.Committee.{Committee}
 use Rattle.register.specs.declared.pair.Statement.{Statement}
@@ -57,7 +57,7 @@ signs-sends c p s r form e =
     let b = share_parts r.kind r.number r.value s form.early form.blank a.1 in
     sends-from p (signing_kind s.kind) s.number s.value r a.0 b.0 b.1 b.2
 
-module _ (c : Committee) (ws : Wire) (formed : All (Formed c) ws) (p : ℕ) (s : Statement) where
+module _ (c : Committee) (ws : Wire) (formed : AllByRecursion (Formed c) ws) (p : ℕ) (s : Statement) where
   -- who has signed a statement has sent a record of the kind that signs it
   pub signed_sent : Signed ws p s → Sent ws p (signing_kind s.kind) s.number s.value
   signed_sent = any-from (Formed c) (signs p s) (sends p (signing_kind s.kind) s.number s.value) ws formed (signs-sends c p s)

@@ -1,6 +1,6 @@
 -- Sums over numbers and over lists. Assumes nothing.
 use Rattle.std.proofs.Common.{◌≡◌, ℕ, zero, suc, ◌+◌, ◌*◌, ◌<◌, ◌≤◌, Bool, cond, List, [], ◌∷◌, sum_by, count_by, sym, refl, subst, inl, inr, suc-mul, add-mul, zero-mul, arith}
-use Rattle.std.specs.List.{AllByRecursion as All}
+use Rattle.std.specs.List.{AllByRecursion}
 use Rattle.std.proofs.lemmas.List.Sums.{sum_by-cons}
 use Rattle.std.proofs.lemmas.Bool.{cases_Bool, cases_eq}
 use Rattle.counting.specs.Counts.{sum_to}
@@ -16,7 +16,7 @@ sum-has t (suc n) p h =
     ]
 
 module _ {X : Type 0} where
-  pub sum_by_le : (P : X → Type 0) (s t : X → ℕ) (xs : List X) → All P xs → ((x : X) → P x → s x ≤ t x) → sum_by s xs ≤ sum_by t xs
+  pub sum_by_le : (P : X → Type 0) (s t : X → ℕ) (xs : List X) → AllByRecursion P xs → ((x : X) → P x → s x ≤ t x) → sum_by s xs ≤ sum_by t xs
   sum_by_le P s t [] a h = omega arith
   sum_by_le P s t (x ∷ xs) a h = rw (sum_by-cons s x xs, sum_by-cons t x xs) (omega (arith, h x a.0, sum_by_le P s t xs a.1 h))
 

@@ -8,7 +8,7 @@
 --   Lawful c leader ws r    what a correct process keeps to as it appends the record
 --   Same r q                the records agree in all that the facts speak of: they may differ in got, heeded, back and vouch
 use Rattle.std.specs.Prelude.{◌≡◌, ℕ, ◌<◌, ◌≤◌, false, ◌⊎◌, count_by}
-use Rattle.std.specs.List.{AllByRecursion as All}
+use Rattle.std.specs.List.{AllByRecursion}
 use Rattle.counting.specs.Counts.{any}
 use Rattle.committee.specs.declared.membership.Committee.{Committee}
 use Rattle.committee.specs.Sets.{size}
@@ -46,7 +46,7 @@ Held c ws p v u y =
     × ((y ≡ z) ⊎ ((b : ℕ) × (w < b) × (b < u) × Quorum c ws (statement 4 b y)))
 
 pub record Facts (c : Committee) (leader : ℕ → ℕ) (ws : Wire) : Type 0 where
-  pub formed : All (Formed c) ws
+  pub formed : AllByRecursion (Formed c) ws
   -- each vote has what the rules ask for it
   pub prepared : (p v x : ℕ) → Correct c p → Sent ws p 8 v x → Backed c ws v x
   pub precommitted : (p v x : ℕ) → Correct c p → Sent ws p 10 v x → Quorum c ws (statement 4 v x)
@@ -59,7 +59,7 @@ pub record Facts (c : Committee) (leader : ℕ → ℕ) (ws : Wire) : Type 0 whe
   pub through : (p e v : ℕ) → Correct c p → Sent ws p 4 e 0 → 1 ≤ v → epoch_of c.f v ≡ e → Entered ws p v
   -- one record for each kind and number
   pub single : (p k m : ℕ) → Correct c p → count_by (posts p k m) ws ≤ 1
-  pub addressed : All (λ r. Correct c r.sender → Addressed c leader r) ws
+  pub addressed : AllByRecursion (λ r. Correct c r.sender → Addressed c leader r) ws
 
 pub record Lawful (c : Committee) (leader : ℕ → ℕ) (ws : Wire) (r : Record) : Type 0 where
   pub fresh : any (posts r.sender (kind_number r.kind) r.number) ws ≡ false

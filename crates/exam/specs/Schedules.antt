@@ -20,7 +20,7 @@ use Rattle.protocol.specs.Opening.{open_cause, Fresh}
 use Rattle.protocol.specs.Ranges.{between}
 use Rattle.moves.specs.declared.faults.Fault.{Fault}
 use Rattle.moves.specs.Orders.{Order, opens, proposes, ticks, expires, delivers, injects, PlacedOrder}
-use Rattle.moves.specs.Texts.{fault_line}
+use Rattle.listing.specs.Lines.{fault_line}
 use Rattle.schedule.specs.Reading.{reading}
 use Rattle.player.specs.declared.outcome.Outcome.TheVariants.{Opened, Refused}
 use Rattle.player.specs.Outcomes.{line_of, process_lines}

@@ -4,7 +4,7 @@ ghost use Rattle.std.specs.Option.{option_map};
 ghost use Rattle.moves.specs.Orders.{placed_of};
 ghost use Rattle.protocol.specs.Ranges.{between};
 ghost use Rattle.player.specs.Outcomes.{line_of};
-ghost use Rattle.moves.specs.Texts.{fault_line};
+ghost use Rattle.listing.specs.Lines.{fault_line};
 ghost use Rattle.exam.specs.Schedules.{ending, Behind};
 ghost use Rattle.exam.specs.Sitting.{lines_on, leads_by, ShowsBy};
 
@@ -57,7 +57,8 @@ fn write_opening(outcome: Outcome, text: &mut String) -> fmt::Result
     ensures { OnOk result (string_bytes text.new ≡ string_bytes text.old ++ line_of 1 outcome) }
 {
     let first: u8 = 1;
-    writeln!(text, "{first} {outcome}")
+    writeln!(text, "{first} {outcome}")?;
+    Ok(())
 }
 
 fn write_fault(fault: Option<Fault>, text: &mut String) -> fmt::Result

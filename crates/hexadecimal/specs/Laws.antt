@@ -4,7 +4,7 @@
 --   ReadsBack         what is written is read back
 --   SkipsComments     a comment with the newline that ends it counts for as much as that newline
 use Rattle.std.specs.Prelude.{◌≡◌, ℕ, ◌+◌, ◌/◌, ◌%◌, ◌<◌, Bool, cond, List, [], ◌∷◌, ◌++◌, Some, ◌≢◌, nat_lt}
-use Rattle.std.specs.List.{AllByRecursion as All}
+use Rattle.std.specs.List.{AllByRecursion}
 use Rattle.hexadecimal.specs.Bytes.{bytes_of}
 
 abbrev pub digit_for : Bool → ℕ → ℕ
@@ -15,8 +15,8 @@ written small [] = []
 written small (b ∷ bs) = digit_for small (b / 16) ∷ digit_for small (b % 16) ∷ written small bs
 
 abbrev pub ReadsBack : Type 0
-ReadsBack = (small : Bool) (bs : List ℕ) → All (λ b. b < 256) bs → bytes_of (written small bs) ≡ Some bs
+ReadsBack = (small : Bool) (bs : List ℕ) → AllByRecursion (λ b. b < 256) bs → bytes_of (written small bs) ≡ Some bs
 
 abbrev pub SkipsComments : Type 0
 SkipsComments =
-    (front comment back : List ℕ) → All (λ c. c ≢ 10) comment → bytes_of (front ++ 35 ∷ comment ++ 10 ∷ back) ≡ bytes_of (front ++ 10 ∷ back)
+    (front comment back : List ℕ) → AllByRecursion (λ c. c ≢ 10) comment → bytes_of (front ++ 35 ∷ comment ++ 10 ∷ back) ≡ bytes_of (front ++ 10 ∷ back)

@@ -17,7 +17,8 @@ fn write_process(number: u8, process: &Process, text: &mut String) -> fmt::Resul
     let epoch = process.synchronizer.epoch;
     let view = process.core.view;
     let decided = process.core.decided;
-    writeln!(text, "p {number} {epoch} {view} {decided}")
+    writeln!(text, "p {number} {epoch} {view} {decided}")?;
+    Ok(())
 }
 
 fn write_all(table: &Table, text: &mut String) -> fmt::Result

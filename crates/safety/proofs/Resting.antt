@@ -1,6 +1,6 @@
 -- What a rule has to show of the records that it sends and the fields that it leaves. Assumes nothing.
 use Rattle.std.proofs.Common.{◌≡◌, ℕ, ◌+◌, ◌-◌, ◌*◌, ◌≤◌, false, ◌++◌, sym, refl, inr}
-use Rattle.std.specs.List.{AllByRecursion as All}
+use Rattle.std.specs.List.{AllByRecursion}
 use Rattle.committee.specs.declared.membership.Committee.{Committee}
 use Rattle.committee.specs.Sets.{of_bits}
 use Rattle.committee.specs.Views.{epoch_of, view_of}
@@ -50,10 +50,10 @@ rest_more c ws vs b p y view decided t =
 
 -- a step that takes no lock
 pub tie : (c : Committee) (ws rs : Wire) (p : ℕ) (q u : Process) → Tied c ws p q → Advances q u
-    → All (λ r. Past u (kind_number r.kind) r.number) rs
+    → AllByRecursion (λ r. Past u (kind_number r.kind) r.number) rs
     → (idle q.certification.phase ≡ false → u.certification.proposal ≡ q.certification.proposal)
-    → All (λ r. kind_number r.kind ≡ 1 → r.value ≡ u.certification.proposal) rs
-    → u.core.locked ≡ q.core.locked → All (λ r. kind_number r.kind ≡ 12 → ⊥) rs
+    → AllByRecursion (λ r. kind_number r.kind ≡ 1 → r.value ≡ u.certification.proposal) rs
+    → u.core.locked ≡ q.core.locked → AllByRecursion (λ r. kind_number r.kind ≡ 12 → ⊥) rs
     → Rest c (ws ++ rs) p u.synchronizer u.core.view u.core.decided → Tied c (ws ++ rs) p u
 tie c ws rs p q u t o now stays told lock none rest =
     record {

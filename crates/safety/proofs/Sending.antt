@@ -1,6 +1,6 @@
 -- What a process's own records do to its ties, and when they are lawful. Assumes nothing.
 use Rattle.std.proofs.Common.{◌≡◌, ℕ, ◌≤◌, Bool, true, false, ◌⊎◌, List, [], ◌∷◌, ◌++◌, sym, refl, ◌∙◌, subst, subst₂, inl, inr, arith}
-use Rattle.std.specs.List.{AllByRecursion as All}
+use Rattle.std.specs.List.{AllByRecursion}
 use Rattle.std.proofs.lemmas.Bool.{or_cases}
 use Rattle.counting.specs.Counts.{any}
 use Rattle.counting.proofs.Any.{any_append}
@@ -24,7 +24,7 @@ any-either t xs ys e = or_cases (any t xs) (any t ys) (sym (any_append t xs ys) 
 -- ---- a process goes from the fields q to the fields u as it sends rs
 
 module _ (c : Committee) (ws rs : Wire) (p : ℕ) (q u : Process) (t : Tied c ws p q) where
-  pub past_own : Advances q u → All (λ r. Past u (kind_number r.kind) r.number) rs → (k m : ℕ) → any (posts p k m) (ws ++ rs) ≡ true → Past u k m
+  pub past_own : Advances q u → AllByRecursion (λ r. Past u (kind_number r.kind) r.number) rs → (k m : ℕ) → any (posts p k m) (ws ++ rs) ≡ true → Past u k m
   past_own o now k m e =
       elim (any-either (posts p k m) ws rs e) [
         | inl i ↦ past_keep q u o k m (t.past k m i)
@@ -34,7 +34,7 @@ module _ (c : Committee) (ws rs : Wire) (p : ℕ) (q u : Process) (t : Tied c ws
 
   -- a proposal that stays, or the first one
   pub told_own : (idle q.certification.phase ≡ false → u.certification.proposal ≡ q.certification.proposal)
-      → All (λ r. kind_number r.kind ≡ 1 → r.value ≡ u.certification.proposal) rs → (x : ℕ) → Sent (ws ++ rs) p 1 0 x → x ≡ u.certification.proposal
+      → AllByRecursion (λ r. kind_number r.kind ≡ 1 → r.value ≡ u.certification.proposal) rs → (x : ℕ) → Sent (ws ++ rs) p 1 0 x → x ≡ u.certification.proposal
   told_own stays now x e =
       elim (any-either (sends p 1 0 x) ws rs e) [
         | inl i ↦ t.told x i ∙ sym (stays ((t.past 1 0 (sent_posted ws p 1 0 x i)).disclosed refl))
@@ -48,7 +48,7 @@ module _ (c : Committee) (ws rs : Wire) (p : ℕ) (q u : Process) (t : Tied c ws
       let P : Mark → Type 0 = λ m. 1 ≤ m.view → Sent (ws ++ rs) p 12 m.view m.value in
       subst P (sym e) (λ l. any-longer (sends p 12 q.core.locked.view q.core.locked.value) ws rs (t.locked l)) h
 
-  pub last_own : u.core.locked ≡ q.core.locked → All (λ r. kind_number r.kind ≡ 12 → ⊥) rs → (v x : ℕ) → Sent (ws ++ rs) p 12 v x → v ≤ u.core.locked.view
+  pub last_own : u.core.locked ≡ q.core.locked → AllByRecursion (λ r. kind_number r.kind ≡ 12 → ⊥) rs → (v x : ℕ) → Sent (ws ++ rs) p 12 v x → v ≤ u.core.locked.view
   last_own e none v x s =
       elim (any-either (sends p 12 v x) ws rs s) [
         | inl i ↦ let P : Mark → Type 0 = λ m. v ≤ m.view in subst P (sym e) (t.last v x i)

@@ -1,5 +1,6 @@
 // The five moves on a board. Each is one function of the sitting, the board with its wire and its register: contracts say
 // which board, wire, register and answer follow, and that a sitting that is a run goes on as one, with all that is promised.
+ghost use Rattle.protocol.specs.Drafts.{draft_as};
 ghost use Rattle.protocol.specs.Runs.{sitting, Ticks, Proposes, Expires, Delivers, Injects};
 ghost use Rattle.safety.specs.Promises.{Keeps};
 
@@ -135,7 +136,7 @@ fn injecting<R: Rota, G: Register>(
     process: u8,
     draft: Draft,
 ) -> Result<Answer, Refusal>
-    ensures exact { Injects R.Rota G.Register (sitting board.old wire.old register.old) process draft (sitting board.new wire.new register.new) result }
+    ensures exact { Injects R.Rota G.Register (sitting board.old wire.old register.old) process (draft_as draft) (sitting board.new wire.new register.new) result }
     ensures keeps { Keeps R.Rota G.Register (sitting board.old wire.old register.old) (sitting board.new wire.new register.new) }
 {
     let step = plan_inject(board, wire, register, process, draft)?;
@@ -151,7 +152,7 @@ pub fn inject<R: Rota, G: Register>(
     process: u8,
     draft: Draft,
 ) -> Result<Answer, Refusal>
-    ensures exact { Injects R.Rota G.Register (sitting board.old wire.old register.old) process draft (sitting board.new wire.new register.new) result }
+    ensures exact { Injects R.Rota G.Register (sitting board.old wire.old register.old) process (draft_as draft) (sitting board.new wire.new register.new) result }
     ensures keeps { Keeps R.Rota G.Register (sitting board.old wire.old register.old) (sitting board.new wire.new register.new) }
 {
     injecting(board, wire, register, process, draft)

@@ -1,5 +1,6 @@
 use Rattle.std.proofs.Common.{sym, refl, subst}
 use Rattle.std.proofs.lemmas.Result.{err_from_is_err_and}
+use Rattle.protocol.specs.Drafts.{draft_as}
 use Rattle.protocol.specs.Ready.{Doable}
 use Rattle.protocol.specs.Runs.{sitting, moment_of}
 use Rattle.protocol.specs.Runs.Move.{injects}
@@ -12,18 +13,18 @@ returns-in_err-step g c =
     let p = err_from_is_err_and c.from_residual.result c.from_residual.ensures.1 in
     let a = sitting c.args.board.now c.args.wire.now c.args.register.now in
     let x = played-refused g.G.Register a _ c.args.process _ c.in_err-step.ensures in
-    rw (p.1, p.2) (record { exact = x; keeps = goes_on g.R.Rota g.G.Register g.met.R.Rota.inside a a (injects c.args.process c.args.draft _ x) })
+    rw (p.1, p.2) (record { exact = x; keeps = goes_on g.R.Rota g.G.Register g.met.R.Rota.inside a a (injects c.args.process (draft_as c.args.draft) _ x) })
 
 pub carry_out-requires : goal.carry_out-requires
 carry_out-requires g c =
     let a = sitting c.args.board.now c.args.wire.now c.args.register.now in
     let m = moment_of g.G.Register a in
     let d = subst (Doable g.G.Register.room c.args.process m) (sym c.in_ok-step.ensures)
-    (inject_doable (g.R.Rota.size c.args.board.now.rota) g.G.Register.room m c.args.process c.args.draft) in
+    (inject_doable (g.R.Rota.size c.args.board.now.rota) g.G.Register.room m c.args.process (draft_as c.args.draft)) in
     record { known = d.0; ready = d.1 }
 
 pub returns : goal.returns
 returns g c =
     let a = sitting c.args.board.now c.args.wire.now c.args.register.now in
     let x = played-done g.G.Register a _ c.args.process c.in_ok-step.step _ c.in_ok-step.ensures c.carry_out.ensures refl in
-    record { exact = x; keeps = goes_on g.R.Rota g.G.Register g.met.R.Rota.inside a _ (injects c.args.process c.args.draft _ x) }
+    record { exact = x; keeps = goes_on g.R.Rota g.G.Register g.met.R.Rota.inside a _ (injects c.args.process (draft_as c.args.draft) _ x) }

@@ -3,7 +3,7 @@ use Rattle.std.proofs.lemmas.List.{nil_from_length}
 use Rattle.std.proofs.lemmas.Result.{IfOk-weaker}
 use Rattle.moves.specs.declared.orders.Placed.{Placed}
 use Rattle.moves.specs.Orders.{placed_of}
-use Rattle.moves.specs.Texts.{fault_line}
+use Rattle.listing.specs.Lines.{fault_line}
 use Rattle.exam.specs.Schedules.{Sits}
 use Rattle.exam.proofs.sitting.schedules.play_read.Goals as goal
 
