@@ -65,7 +65,10 @@ fn write_fault(fault: Option<Fault>, text: &mut String) -> fmt::Result
     ensures { OnOk result (string_bytes text.new ≡ string_bytes text.old ++ fault_line fault) }
 {
     match fault {
-        Some(fault) => writeln!(text, "{fault}"),
+        Some(fault) => {
+            writeln!(text, "{fault}")?;
+            Ok(())
+        }
         None => Ok(()),
     }
 }
