@@ -10,7 +10,7 @@ use Rattle.register.specs.declared.pair.Pair.{Pair}
 use Rattle.protocol.specs.declared.board.Board.{Board}
 use Rattle.protocol.specs.declared.board.Table.{Table}
 use Rattle.protocol.specs.Moments.{Moment, moment, signed_of, no_record}
-use Rattle.protocol.specs.Opening.{open_cause, Opened, Fresh, Opens}
+use Rattle.protocol.specs.Opening.{open_cause, Fresh, Opens}
 use Rattle.protocol.specs.Ranges.{between}
 use Rattle.moves.specs.declared.faults.Fault.{Fault}
 use Rattle.moves.specs.Orders.{PlacedOrder}
