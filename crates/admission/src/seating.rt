@@ -6,7 +6,6 @@ ghost use Rattle.admission.specs.Seating.{in_order, Seated, Seats, FindsRoom};
 
 use committee::Rota;
 use protocol::{Board, Seat, Table};
-use readings::{table_fits, wire_fits};
 use refusals::Refusal;
 use register::Register;
 use wire::Record;
@@ -19,7 +18,7 @@ pub fn in_order<R: Rota>(board: &Board<R>, wire: &[Record]) -> bool
     ensures { result ≡ in_order (R.Rota.size board.now.rota) board.now.table wire.now }
 {
     let fitting = board.rota.size() == board.table.setting.committee.n;
-    fitting & (table_fits(&board.table) & wire_fits(&board.table, wire))
+    fitting & (board.table.in_range() & board.table.wire_in_range(wire))
 }
 
 fn seated(table: &Table, process: u8) -> Seat

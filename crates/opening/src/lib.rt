@@ -8,7 +8,6 @@ ghost use Rattle.safety.specs.Promises.{Begins};
 use committee::{Committee, ProcessSet, Rota};
 use protocol::process::{Certification, Mark, Phase, Synchronizer, ViewCore};
 use protocol::{Board, Process, Setting, Table};
-use readings::setting_fits;
 use refusals::Refusal;
 use register::Register;
 use wire::Vouch;
@@ -56,7 +55,7 @@ fn new_board<R: Rota + Drop, G: Register>(
         delay,
         overlap,
     };
-    if !setting_fits(&setting) {
+    if !setting.in_range() {
         return Err(Refusal::DurationOutOfRange);
     }
     if register.held() != 0 {

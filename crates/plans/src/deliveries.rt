@@ -9,8 +9,7 @@ ghost use Rattle.admission.specs.Seating.{is_undeliverable};
 
 use admission::{admit, find_room, is_stale, seat_at};
 use committee::Rota;
-use protocol::{Ballot, Board, Delivery, Seat, Step, Table};
-use readings::{best_backing, from_senders};
+use protocol::{Ballot, Board, Delivery, Seat, Step, Table, best_backing, from_senders};
 use refusals::Refusal;
 use register::Register;
 use wire::{Heeded, Kind, Record};

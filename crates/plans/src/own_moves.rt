@@ -8,8 +8,8 @@ ghost use Rattle.protocol.specs.Rulings.{view_expiry_of, spread_expiry_of, expir
 use admission::{find_room, seat_at};
 use committee::Rota;
 use protocol::process::Phase;
+use protocol::ranges::{LAST_EPOCH, LAST_TICK};
 use protocol::{Board, Draft, Process, Seat, Step};
-use readings::ranges::{LAST_EPOCH, LAST_TICK};
 use refusals::Refusal;
 use register::Register;
 use wire::Record;

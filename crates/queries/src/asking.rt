@@ -9,7 +9,7 @@ ghost use Rattle.queries.specs.Asking.{words_answer, line_answer, leader_answer,
 use admission::in_order;
 use committee::{Committee, Rota};
 use protocol::Board;
-use readings::ranges::LAST_EPOCH;
+use protocol::ranges::LAST_EPOCH;
 use refusals::Refusal;
 use wire::Record;
 

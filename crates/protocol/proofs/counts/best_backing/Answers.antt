@@ -1,8 +1,8 @@
 use Rattle.std.proofs.Common.{Bool, ◌||◌, eqb, refl, ap, ◌∙◌}
 use Rattle.protocol.specs.Moments.{record_at, no_record}
 use Rattle.protocol.specs.Plans.{better}
-use Rattle.readings.proofs.Backing.{best_more, best_all}
-use Rattle.readings.proofs.counts.best_backing.Goals as goal
+use Rattle.protocol.proofs.Backing.{best_more, best_all}
+use Rattle.protocol.proofs.counts.best_backing.Goals as goal
 
 pub loop-i-init : goal.loop-i-init
 loop-i-init c = refl

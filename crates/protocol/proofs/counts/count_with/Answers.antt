@@ -1,7 +1,7 @@
 use Rattle.std.proofs.Common.{ap, ◌∙◌}
 use Rattle.register.proofs.Gathering.{gathered_with, gathered_without}
 use Rattle.committee.specs.Sets.{size}
-use Rattle.readings.proofs.counts.count_with.Goals as goal
+use Rattle.protocol.proofs.counts.count_with.Goals as goal
 
 pub returns-then-process-le30 : goal.returns-then-process-le30
 returns-then-process-le30 c = λ t g. c.len.ensures ∙ ap size c.with.ensures ∙ gathered_with t c.args.found c.args.process g c.if-process-le30.true

@@ -1,6 +1,6 @@
 use Rattle.counting.proofs.Every.{every-stop, every_more, every-end}
 use Rattle.wire.specs.Ranges.{in_range}
-use Rattle.readings.proofs.ranges.records_fit.Goals as goal
+use Rattle.protocol.proofs.ranges.records_fit.Goals as goal
 
 pub returns-then-not-in_range : goal.returns-then-not-in_range
 returns-then-not-in_range c = every-stop (in_range c.args.committee.now.n) c.args.records.now c.loop-record.record-index _ _ c.loop-record-test.true c.in_range.ensures c.if-not-in_range.true c.loop-record.invariant

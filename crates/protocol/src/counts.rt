@@ -4,8 +4,8 @@ ghost use Rattle.counting.specs.Counts.{count_to};
 ghost use Rattle.register.specs.Distinct.{Gathered};
 ghost use Rattle.protocol.specs.Plans.{from_senders, better, best_backing};
 
+use crate::process::Mark;
 use committee::ProcessSet;
-use protocol::process::Mark;
 use register::{Attests, distinct_processes};
 use wire::{Heeded, Record};
 
