@@ -1,10 +1,10 @@
 -- What a move on a board is tested for, whatever it is. Assumes nothing.
---   in_order n t w    the rota, of size n, fits the committee, and board and used records are in range
---   Seated           this is the seat of the process, which stands at a place of its epoch
---   Seats            the seat of a process on a board in range, or the first cause that stands in the way
---   FindsRoom       two records are free and one pair, or the first cause that stands in the way
---   is_undeliverable  there is no such record, it is not addressed to the process, or the process has got it
---   Admits           the process takes records of this kind and view, or the first cause that stands in the way
+--   in_order n t w     the rota, of size n, fits the committee, and board and used records are in range
+--   Seated             this is the seat of the process, which stands at a place of its epoch
+--   Seats              the seat of a process on a board in range, or the first cause that stands in the way
+--   FindsRoom          two records are free and one pair, or the first cause that stands in the way
+--   is_undeliverable   there is no such record, it is not addressed to the process, or the process has got it
+--   Admits             the process takes records of this kind and view, or the first cause that stands in the way
 use Rattle.std.specs.Prelude.{◌≡◌, ℕ, ◌+◌, ◌≤◌, Bool, true, false, cond, not, ◌&&◌, ◌||◌, List, Ok, Err, Result, ◌==◌, nat_le}
 use Rattle.refusals.specs.declared.causes.Refusal.{Refusal}
 use Rattle.refusals.specs.declared.causes.Refusal.TheVariants.{BoardOutOfRange, NoSuchProcess, Untimely, ViewAhead}

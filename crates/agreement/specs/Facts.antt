@@ -1,12 +1,12 @@
 -- What stays true of a wire, whatever is appended to it. Assumes nothing.
---   Formed c r              the sender is of the committee; kinds 1 to 3 have no number and the others have one; kinds 2 and 4 have no value
---   ToLeader k, ByLeader k  the kinds that go to the leader of a view, and those that come from it
---   Addressed c leader r    the record goes to as many as its kind may
---   Backed c ws v x         the value x may be voted for in view v: it is certified, or prepared in an earlier view
---   Held c ws p v u y       the lock of process p, from view v on, lets it vote for the value y in view u
---   Facts c leader ws       what correct processes have sent; `leader` names the leader of each view
---   Lawful c leader ws r    what a correct process keeps to as it appends the record
---   Same r q                the records agree in all that the facts speak of: they may differ in got, heeded, back and vouch
+--   Formed c r               the sender is of the committee; kinds 1 to 3 have no number and the others have one; kinds 2 and 4 have no value
+--   ToLeader k, ByLeader k   the kinds that go to the leader of a view, and those that come from it
+--   Addressed c leader r     the record goes to as many as its kind may
+--   Backed c ws v x          the value x may be voted for in view v: it is certified, or prepared in an earlier view
+--   Held c ws p v u y        the lock of process p, from view v on, lets it vote for the value y in view u
+--   Facts c leader ws        what correct processes have sent; `leader` names the leader of each view
+--   Lawful c leader ws r     what a correct process keeps to as it appends the record
+--   Same r q                 the records agree in all that the facts speak of: they may differ in got, heeded, back and vouch
 use Rattle.std.specs.Prelude.{◌≡◌, ℕ, ◌<◌, ◌≤◌, false, ◌⊎◌, count_by}
 use Rattle.std.specs.List.{AllByRecursion}
 use Rattle.counting.specs.Counts.{any}

@@ -1,10 +1,10 @@
 -- Who has signed what on a wire. Assumes nothing.
 --   is_share o s       the share o is of the statement s
---   signs p s r       process p sent the record r, and signs the statement s by it
---   Signed ws p s     the wire has such a record
---   signers ws s      how many processes have signed the statement
---   Quorum c ws s     a quorum has
---   Certified c ws x  a weak quorum has disclosed the value x, or allows any
+--   signs p s r        process p sent the record r, and signs the statement s by it
+--   Signed ws p s      the wire has such a record
+--   signers ws s       how many processes have signed the statement
+--   Quorum c ws s      a quorum has
+--   Certified c ws x   a weak quorum has disclosed the value x, or allows any
 -- A statement's first number says what is signed: 1 a disclosure, 2 that any value is allowed, 3 that an epoch is completed,
 -- and 4, 5 and 6 a vote to prepare, to precommit and to commit.
 use Rattle.std.specs.Prelude.{◌≡◌, ℕ, ◌≤◌, Bool, true, false, ◌&&◌, ◌⊎◌, Some, None, Option, ◌==◌}

@@ -1,11 +1,11 @@
 -- What is on a wire. Assumes nothing.
---   Wire               the records sent so far, oldest first
---   Correct c p        process p of the committee keeps to the rules
---   sends p k m x r    process p sent the record r, of the kind with number k, with the number m and the value x
---   posts p k m r      the same, with any value
---   Sent ws p k m x    the wire has such a record
---   Entered ws p v     process p has sent VIEW-CHANGE for view v
---   heard ws p q       process p has heeded a disclosure of process q
+--   Wire                the records sent so far, oldest first
+--   Correct c p         process p of the committee keeps to the rules
+--   sends p k m x r     process p sent the record r, of the kind with number k, with the number m and the value x
+--   posts p k m r       the same, with any value
+--   Sent ws p k m x     the wire has such a record
+--   Entered ws p v      process p has sent VIEW-CHANGE for view v
+--   heard ws p q        process p has heeded a disclosure of process q
 --   heard_of ws p w q   the same, of the value w
 use Rattle.std.specs.Prelude.{◌≡◌, ℕ, Bool, true, ◌&&◌, List, ◌==◌}
 use Rattle.counting.specs.Counts.{any}

@@ -1,12 +1,12 @@
 -- How many processes a rule asks for, and what so many are good for. Assumes nothing.
---   quorum_of c            votes, view changes and completed epochs
---   weak_quorum_of c        enough that one of them is correct
---   disclosure_quorum_of c  disclosures after which ALLOW-ANY is sent
---   is_correct c p         process p is not in the faulty set
---   Members c t           each process that passes the test t is of the committee
---   QuorumsMeet c        two quorums share a correct process
---   OneCorrect c         a weak quorum has a correct process
---   ManyCorrect c        a quorum has a weak quorum of correct processes
+--   quorum_of c              votes, view changes and completed epochs
+--   weak_quorum_of c         enough that one of them is correct
+--   disclosure_quorum_of c   disclosures after which ALLOW-ANY is sent
+--   is_correct c p           process p is not in the faulty set
+--   Members c t              each process that passes the test t is of the committee
+--   QuorumsMeet c            two quorums share a correct process
+--   OneCorrect c             a weak quorum has a correct process
+--   ManyCorrect c            a quorum has a weak quorum of correct processes
 -- A group of processes is a test on process numbers, and its size a count below 31, the largest committee.
 use Rattle.std.specs.Prelude.{◌≡◌, ℕ, ◌+◌, ◌*◌, ◌<◌, ◌≤◌, Bool, true, not, ◌&&◌}
 use Rattle.counting.specs.Counts.{count_to}

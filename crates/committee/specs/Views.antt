@@ -1,10 +1,10 @@
 -- How views fall into epochs of f + 1 views each. Assumes nothing.
---   last_view      the greatest view that a record or a call can name
---   epoch_of f v   the epoch of view v, counted from 1
---   place_of f v   its place there, from 1 to f + 1
---   view_of f e p  the view at place p of epoch e
---   is_view v      v can be asked for
---   Placed f e p v  where e and p are an epoch and a place in it, view v has them
+--   last_view        the greatest view that a record or a call can name
+--   epoch_of f v     the epoch of view v, counted from 1
+--   place_of f v     its place there, from 1 to f + 1
+--   view_of f e p    the view at place p of epoch e
+--   is_view v        v can be asked for
+--   Placed f e p v   where e and p are an epoch and a place in it, view v has them
 use Rattle.std.specs.Prelude.{◌≡◌, ℕ, ◌+◌, ◌-◌, ◌*◌, ◌/◌, ◌%◌, ◌≤◌, Bool, ◌&&◌, nat_le}
 
 abbrev pub last_view : ℕ

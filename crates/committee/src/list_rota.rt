@@ -1,7 +1,7 @@
 // The rota that goes round a list of leaders.
 ghost use Rattle.std.specs.Prelude.{◌≡◌, ◌%◌, ◌<◌, ◌≤◌, vec_len, MatchOption, slice_index};
 ghost use Rattle.committee.specs.Lists.{AllBelow, Listed};
-ghost use Rattle.std.proofs.Common.{rules, arith};
+ghost use Rattle.std.proofs.Common.{rules};
 
 use crate::rota::Rota;
 
@@ -36,7 +36,7 @@ impl Rota for ListRota {
 
     ghost leader = { λ r v. slice_index r.entries.items (v % vec_len r.entries) };
 
-    ghost inside = { first_of (Prim.search rules, Prim.grind (arith, Self.row.coded.inj)) };
+    ghost inside = { Prim.search rules };
 
     fn size(&self) -> u8 {
         self.n

@@ -1,6 +1,6 @@
 // The rota by turns: view v is led by process v mod n.
 ghost use Rattle.std.specs.Prelude.{◌≡◌, ◌%◌, ◌≤◌};
-ghost use Rattle.std.proofs.Common.{rules, arith};
+ghost use Rattle.std.proofs.Common.{rules};
 
 use crate::membership::Committee;
 use crate::rota::Rota;
@@ -25,7 +25,7 @@ impl Rota for TurnRota {
 
     ghost leader = { λ r v. v % r.n };
 
-    ghost inside = { first_of (Prim.search rules, Prim.grind (arith, Self.row.coded.inj)) };
+    ghost inside = { Prim.search rules };
 
     fn size(&self) -> u8 {
         self.n

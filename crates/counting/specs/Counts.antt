@@ -1,8 +1,8 @@
 -- Counts over processes. Assumes nothing.
 --   sum_to t n     the sum of t over the numbers below n
 --   count_to t n   how many of the numbers below n pass the test t
---   any t xs      whether some element of the list passes the test t
---   every t xs    whether each does
+--   any t xs       whether some element of the list passes the test t
+--   every t xs     whether each does
 --   bit_at s p     whether process p is in the set s, a number whose bit p stands for process p
 use Rattle.std.specs.Prelude.{ℕ, zero, suc, ◌+◌, ◌/◌, ◌%◌, ◌^◌, Bool, true, false, cond, ◌&&◌, ◌||◌, List, [], ◌∷◌, ◌==◌}
 

@@ -1,5 +1,5 @@
 -- The edge cases of the rule book, asked of the definitions. Assumes nothing.
---   cases        each case as a test
+--   cases         each case as a test
 --   all_hold bs   each test of the list is passed
 use Rattle.std.specs.Prelude.{Bool, true, not, ◌&&◌, List, [], ◌∷◌, eqb}
 use Rattle.committee.specs.Membership.{is_committee}

@@ -1,8 +1,8 @@
 -- The edge cases of single moves, played on the definitions. Assumes nothing.
 --   is_refused k, is_answered t   a plan that is refused with this number, or whose answer passes the test
---   expiring t     the view timer of a process that began at 0, with delays of 10 and 5 ticks, expires at t
---   entering k     ENTER-EPOCH 2 comes to a process in epoch 1, where k processes have completed it
---   move_cases     each case as a test
+--   expiring t                    the view timer of a process that began at 0, with delays of 10 and 5 ticks, expires at t
+--   entering k                    ENTER-EPOCH 2 comes to a process in epoch 1, where k processes have completed it
+--   move_cases                    each case as a test
 use Rattle.std.specs.Prelude.{ℕ, ◌%◌, Bool, true, false, List, [], ◌∷◌, replicate, take, Ok, Err, Result, eqb}
 use Rattle.std.proofs.Math.ListN.{set}
 use Rattle.refusals.specs.declared.causes.Refusal.{Refusal}

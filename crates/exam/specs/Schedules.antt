@@ -1,13 +1,13 @@
 -- What is printed of a whole schedule. Assumes nothing.
---   is_lawful n xs     a list of leaders for n processes
---   rota_size, leads_of the size of the rota that OPEN names, if it is lawful, and who leads; without a list they lead in turn
---   room_of            the room of the register that OPEN names
---   judged            the number of the register is tested last
---   start t           a new board on a wire of 1,024 records, with an empty register
---   ending            the line of the fault, or the lines of the processes that run
---   Shows             what is printed once OPEN is judged
---   Sits              what is printed of moves that are read, and of the fault behind them
---   Sat               what is printed of a schedule's bytes, behind what was printed before
+--   is_lawful n xs        a list of leaders for n processes
+--   rota_size, leads_of   the size of the rota that OPEN names, if it is lawful, and who leads; without a list they lead in turn
+--   room_of               the room of the register that OPEN names
+--   judged                the number of the register is tested last
+--   start t               a new board on a wire of 1,024 records, with an empty register
+--   ending                the line of the fault, or the lines of the processes that run
+--   Shows                 what is printed once OPEN is judged
+--   Sits                  what is printed of moves that are read, and of the fault behind them
+--   Sat                   what is printed of a schedule's bytes, behind what was printed before
 use Rattle.std.specs.Prelude.{◌≡◌, ℕ, ◌%◌, Bool, cond, ◌&&◌, List, [], ◌∷◌, ◌++◌, length, take, replicate, Some, None, Option, ◌==◌, nat_le, nat_lt, slice_index}
 use Rattle.refusals.specs.declared.causes.Refusal.{Refusal}
 use Rattle.refusals.specs.declared.causes.Refusal.TheVariants.{FieldOutOfRange}

@@ -1,6 +1,6 @@
 -- The lines of a sitting on a board and a register. Assumes nothing.
 --   lines_on   what is printed from a board that is open on
---   ShowsBy   what is printed once OPEN, with these terms and a rota of this size, if there is a rota, is judged
+--   ShowsBy    what is printed once OPEN, with these terms and a rota of this size, if there is a rota, is judged
 --   terms_of   what OPEN gives besides its rota
 --   leads_by   who leads by a rota; without one nobody is asked
 use Rattle.std.specs.Prelude.{ℕ, List, ◌++◌, replicate, Some, None, Option}

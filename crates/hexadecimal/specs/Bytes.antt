@@ -1,12 +1,12 @@
 -- The bytes that a hexadecimal text writes. Assumes nothing.
---   blank        whether a byte of a text is a blank, a tab, a newline or a carriage return
+--   blank         whether a byte of a text is a blank, a tab, a newline or a carriage return
 --   in_comment    whether a byte belongs to a comment, told by the byte before it: '#' begins one, and a newline ends it
 --   stripped_in   what is left of a text, which may begin in a comment, without comments and blanks
---   stripped     what is left of a whole text
+--   stripped      what is left of a whole text
 --   digit_of      the value of a digit: 0 to 9, A to F or a to f
 --   byte_of       the byte of two digits
---   followed     a byte, and the bytes behind it; none where either is missing
---   paired       the bytes of a row of digits, two to a byte; none where something else stands there or the number is odd
+--   followed      a byte, and the bytes behind it; none where either is missing
+--   paired        the bytes of a row of digits, two to a byte; none where something else stands there or the number is odd
 --   bytes_of      the bytes of a text
 --   held_by       the bytes in an answer
 use Rattle.std.specs.Prelude.{ℕ, ◌+◌, ◌-◌, ◌*◌, Bool, false, cond, not, ◌&&◌, ◌||◌, List, [], ◌∷◌, Some, None, vec_items, Option, Vec, ◌==◌, nat_le}

@@ -1,8 +1,8 @@
 -- What a hexadecimal text is, told by what can be written. Assumes nothing.
---   digit_for          the digit of a value below 16, with small letters or capital ones
---   written           bytes as digits, two to a byte, the high one first
---   ReadsBack         what is written is read back
---   SkipsComments     a comment with the newline that ends it counts for as much as that newline
+--   digit_for       the digit of a value below 16, with small letters or capital ones
+--   written         bytes as digits, two to a byte, the high one first
+--   ReadsBack       what is written is read back
+--   SkipsComments   a comment with the newline that ends it counts for as much as that newline
 use Rattle.std.specs.Prelude.{◌≡◌, ℕ, ◌+◌, ◌/◌, ◌%◌, ◌<◌, Bool, cond, List, [], ◌∷◌, ◌++◌, Some, ◌≢◌, nat_lt}
 use Rattle.std.specs.List.{AllByRecursion}
 use Rattle.hexadecimal.specs.Bytes.{bytes_of}

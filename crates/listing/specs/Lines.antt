@@ -1,7 +1,7 @@
 -- The listing of a schedule. Assumes nothing.
 --   move_line, fault_line   a line of text for a move, and for the fault, if there is one
---   WritesFault           that reading stopped at a fault, and that its line was appended
---   listing               a line for each move, then that of the fault
+--   WritesFault             that reading stopped at a fault, and that its line was appended
+--   listing                 a line for each move, then that of the fault
 use Rattle.std.specs.Prelude.{◌≡◌, ℕ, List, [], ◌++◌, Some, None, codes, Option}
 use Rattle.std.specs.List.{flat_map}
 use Rattle.moves.specs.declared.faults.Fault.{Fault}

@@ -1,8 +1,8 @@
 -- The moves of a schedule as plain numbers and lists. Assumes nothing.
 --   Order         a move with its numbers; of OPEN the small delta stands before the capital one
---   order_of       the order that a move of the code is
+--   order_of      the order that a move of the code is
 --   PlacedOrder   an order, and the byte at which its first field's tag stands
---   placed_of      the placed order that a placed move of the code is
+--   placed_of     the placed order that a placed move of the code is
 use Rattle.std.specs.Prelude.{ℕ, List, Option}
 use Rattle.std.specs.Option.{option_map}
 use Rattle.moves.specs.declared.orders.Move.{Move}

@@ -1,6 +1,6 @@
 -- Moves and faults as text, the numbers in decimal. Assumes nothing.
 --   fault_text    the word, the number of the cause, the byte
---   spaced       a number, with a blank before it
+--   spaced        a number, with a blank before it
 --   rota_text     what stands behind the numbers of OPEN
 --   order_text    the move's name and its numbers, in the order of its content
 --   placed_text   the byte and the move

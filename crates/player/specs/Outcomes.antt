@@ -1,11 +1,11 @@
 -- What a move comes to, as it is printed. Assumes nothing.
 --   answer_word, answer_number     each answer's word, and its number: how many records were appended
 --   outcome_word, outcome_number   the same of opening and of refusals, whose numbers are n and the cause's
---   outcome_text                  the word, a blank, the number
---   outcome_of                    the outcome of a move on a board
---   line_of k o                   the line of the move with the number k
---   process_line p q              the line of a process
---   process_lines p qs            the lines of those that run; the list begins with the process p
+--   outcome_text                   the word, a blank, the number
+--   outcome_of                     the outcome of a move on a board
+--   line_of k o                    the line of the move with the number k
+--   process_line p q               the line of a process
+--   process_lines p qs             the lines of those that run; the list begins with the process p
 use Rattle.std.specs.Prelude.{ℕ, ◌+◌, cond, List, [], ◌∷◌, ◌++◌, Ok, Err, codes, decimal, Result}
 use Rattle.refusals.specs.declared.causes.Refusal.{Refusal}
 use Rattle.refusals.specs.Numbers.{refusal_number}

@@ -1,11 +1,11 @@
 -- Certification: from the proposal to a certificate, and the start of view 1. Assumes nothing.
---   proposes           what propose comes to
---   entering v k       the view core on entering view v
---   begun s q y w      the process that begins with the offer y, vouched for by w
---   begins             CERTIFICATE is sent, and view 1 entered; l is its leader
---   on_disclose         from so many senders with this value, and from so many in all
---   on_allow_any         from so many senders
---   on_certificate      whether its certificate holds
+--   proposes         what propose comes to
+--   entering v k     the view core on entering view v
+--   begun s q y w    the process that begins with the offer y, vouched for by w
+--   begins           CERTIFICATE is sent, and view 1 entered; l is its leader
+--   on_disclose      from so many senders with this value, and from so many in all
+--   on_allow_any     from so many senders
+--   on_certificate   whether its certificate holds
 use Rattle.std.specs.Prelude.{ℕ, ◌+◌, ◌*◌, Bool, true, cond, not, ◌&&◌, nat_le}
 use Rattle.committee.specs.Thresholds.{weak_quorum_of, disclosure_quorum_of}
 use Rattle.wire.specs.declared.kind.Kind.TheVariants.{Disclose, AllowAny}

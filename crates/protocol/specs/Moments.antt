@@ -1,8 +1,8 @@
 -- What a step makes of a board, a wire and a register. Assumes nothing.
 --   Signed             what a register means to a sitting: who has signed what, and how many pairs that is
---   signed_of xs        the same of a list of pairs
---   with_pair p s z     with one pair more
---   with_share r z      with the share of a record signed by its sender, if it has one
+--   signed_of xs       the same of a list of pairs
+--   with_pair p s z    with one pair more
+--   with_share r z     with the share of a record signed by its sender, if it has one
 --   Moment             a board without its rota, the wire, and what is signed
 --   appended r m       a record written behind the used ones, and its share signed
 --   done p z m         a step carried out: the process takes its fields, then the records are appended

@@ -1,8 +1,8 @@
 -- What open answers, and the board that it makes. Assumes nothing.
---   open_cause     the first cause that stands in the way: of f, the faulty set, the durations, the pairs held, and the rota's size, if there is a rota
---   Fresh         the table for these numbers: every process is blank, and no record is used
---   Opened        the board with such a table and this rota
---   Opens         a board that is opened, or the cause
+--   open_cause   the first cause that stands in the way: of f, the faulty set, the durations, the pairs held, and the rota's size, if there is a rota
+--   Fresh        the table for these numbers: every process is blank, and no record is used
+--   Opened       the board with such a table and this rota
+--   Opens        a board that is opened, or the cause
 use Rattle.std.specs.Prelude.{◌≡◌, ℕ, Bool, false, cond, not, ◌&&◌, replicate, Some, None, Ok, Err, Option, Result, ◌==◌}
 use Rattle.std.specs.Option.{option_map}
 use Rattle.refusals.specs.declared.causes.Refusal.{Refusal}

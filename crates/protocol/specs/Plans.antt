@@ -1,11 +1,11 @@
 -- Each move as the rules give it: the first cause of a refusal, or the step that it comes to. Assumes nothing.
---   seat t p            the fields of a process
---   used_of m            the records that are used
---   board_fits n m       the rota, of size n, fits the committee, and board and used records are in range
---   crowded m           fewer than two records are free
---   from_senders h s ws  how many distinct senders there are of the records that h asks for, with s, the sender of the delivered one
---   best_backing         the first largest backing among the records that h asks for, with the one at place i
---   ruled               the rule of the delivered record's kind
+--   seat t p              the fields of a process
+--   used_of m             the records that are used
+--   board_fits n m        the rota, of size n, fits the committee, and board and used records are in range
+--   crowded m             fewer than two records are free
+--   from_senders h s ws   how many distinct senders there are of the records that h asks for, with s, the sender of the delivered one
+--   best_backing          the first largest backing among the records that h asks for, with the one at place i
+--   ruled                 the rule of the delivered record's kind
 --   tick_plan, propose_plan, expire_plan, deliver_plan, inject_plan   the five moves on a board
 use Rattle.std.specs.Prelude.{ℕ, ◌+◌, min, Bool, cond, not, ◌&&◌, ◌||◌, List, [], ◌∷◌, length, take, Some, None, Ok, Err, Option, Result, ◌==◌, nat_le, nat_lt, slice_index_or}
 use Rattle.refusals.specs.declared.causes.Refusal.{Refusal}

@@ -1,7 +1,7 @@
 -- A process, and what changes of it. Assumes nothing.
 --   idle, certifying, running   the phase
 --   mark v x                    the value x with the view v
---   blank_process                a process that has done nothing: every field is 0
+--   blank_process               a process that has done nothing: every field is 0
 --   with-…                      the process with that field, or that group of fields, changed
 use Rattle.std.specs.Prelude.{ℕ, Bool, true, false}
 use Rattle.wire.specs.declared.vouch.Vouch.{Vouch}

@@ -1,15 +1,15 @@
 -- Which processes and boards are in range. Assumes nothing.
---   between a x b     x is from a to b
---   last_tick          the end of every clock
---   last_deadline      the greatest deadline
---   standing_fits f q  where the process stands: epoch, place and view count from 1 while it runs; otherwise these and both deadlines are 0
---   clock_fits q       clock and deadlines
---   votes_fit q        prepared, locked, step and lead
---   values_fit q       a proposal of 0 needs idle, an offer or a vouch of 0 needs not running
---   process_fits f q   all of these
---   setting_fits s     the two durations
---   table_fits t       the setting, and each process below n
---   wire_fits t w      as many records as are used are there, and each of them is in range
+--   between a x b       x is from a to b
+--   last_tick           the end of every clock
+--   last_deadline       the greatest deadline
+--   standing_fits f q   where the process stands: epoch, place and view count from 1 while it runs; otherwise these and both deadlines are 0
+--   clock_fits q        clock and deadlines
+--   votes_fit q         prepared, locked, step and lead
+--   values_fit q        a proposal of 0 needs idle, an offer or a vouch of 0 needs not running
+--   process_fits f q    all of these
+--   setting_fits s      the two durations
+--   table_fits t        the setting, and each process below n
+--   wire_fits t w       as many records as are used are there, and each of them is in range
 use Rattle.std.specs.Prelude.{ℕ, ◌+◌, ◌^◌, Bool, cond, not, ◌&&◌, ◌||◌, List, length, take, ◌==◌, nat_le, nat_lt}
 use Rattle.counting.specs.Counts.{every}
 use Rattle.committee.specs.Views.{is_view, last_view}

@@ -1,7 +1,7 @@
 -- What carrying out a step rests on. Assumes nothing.
---   Free room m           two records are free, and one more pair goes into the register
---   Ready room p m a b    the records a and b, if any, come from process p and find room, and b has no share to sign
---   Doable room p m z     a refusal, or a step of a process that can be carried out
+--   Free room m          two records are free, and one more pair goes into the register
+--   Ready room p m a b   the records a and b, if any, come from process p and find room, and b has no share to sign
+--   Doable room p m z    a refusal, or a step of a process that can be carried out
 use Rattle.std.specs.Prelude.{◌≡◌, ℕ, ◌+◌, ◌<◌, ◌≤◌, length, Some, None, Ok, Err, Option, Result}
 use Rattle.refusals.specs.declared.causes.Refusal.{Refusal}
 use Rattle.wire.specs.declared.record.Record.{Record}

@@ -1,9 +1,9 @@
 -- The rules of a delivery and an expiry over the plain values that they read, as the plans make them up. Assumes nothing.
---   holding           the certificate that the record claims holds by what is signed
---   heard_from        how many senders the process heeds of such records, the record's own included
---   ruled_on          the rule of the record's kind
---   ahead             the record is of a view that the process has not reached
---   taken             what a correct process makes of a record that is delivered to it
+--   holding      the certificate that the record claims holds by what is signed
+--   heard_from   how many senders the process heeds of such records, the record's own included
+--   ruled_on     the rule of the record's kind
+--   ahead        the record is of a view that the process has not reached
+--   taken        what a correct process makes of a record that is delivered to it
 --   view_expiry_of, spread_expiry_of, expiry_of   what the expiry of a timer comes to, once it is due and there is room
 use Rattle.std.specs.Prelude.{ℕ, ◌+◌, Bool, cond, ◌&&◌, List, Some, None, Ok, Err, Option, Result, ◌==◌, nat_lt}
 use Rattle.refusals.specs.declared.causes.Refusal.{Refusal}

@@ -1,12 +1,12 @@
 -- A run: what comes of a new board and an empty register by any moves, each as the contract of its call has it. Assumes nothing.
---   Sitting       a board with its rota, the wire and the register
---   moment_of      a sitting by what its register means
---   Makes         what a move with this plan answers, and what it leaves; a refusal leaves everything
+--   Sitting     a board with its rota, the wire and the register
+--   moment_of   a sitting by what its register means
+--   Makes       what a move with this plan answers, and what it leaves; a refusal leaves everything
 --   Ticks, Proposes, Expires, Delivers, Injects   the five moves on a board
---   New           a board as open makes it, and an empty register
---   Move          one move, accepted or refused
---   Onward        any number of moves
---   Run           what can be reached from a new board and an empty register
+--   New         a board as open makes it, and an empty register
+--   Move        one move, accepted or refused
+--   Onward      any number of moves
+--   Run         what can be reached from a new board and an empty register
 use Rattle.std.specs.Prelude.{◌≡◌, ℕ, true, false, List, length, replicate, is_ok, Result}
 use Rattle.refusals.specs.declared.causes.Refusal.{Refusal}
 use Rattle.committee.specs.declared.rota.Rota.{Ghosts as RotaMeans}

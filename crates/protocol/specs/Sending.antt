@@ -1,9 +1,9 @@
 -- The records that correct processes send. Assumes nothing.
---   to_all c p k m x      kind k with number m and value x from process p to all of the committee
---   to_one l p k m x      the same to process l alone
---   certificate c p x w  CERTIFICATE for the value x, or for any, as the vouch w says
---   view_change l p v k   VIEW-CHANGE v with what the view core k has prepared, to the leader l
---   proposal c p v x b w PREPARE v for the value x, backed by view b or vouched for by w
+--   to_all c p k m x       kind k with number m and value x from process p to all of the committee
+--   to_one l p k m x       the same to process l alone
+--   certificate c p x w    CERTIFICATE for the value x, or for any, as the vouch w says
+--   view_change l p v k    VIEW-CHANGE v with what the view core k has prepared, to the leader l
+--   proposal c p v x b w   PREPARE v for the value x, backed by view b or vouched for by w
 use Rattle.std.specs.Prelude.{ℕ}
 use Rattle.committee.specs.declared.membership.Committee.{Committee}
 use Rattle.committee.specs.declared.sets.ProcessSet.{ProcessSet}

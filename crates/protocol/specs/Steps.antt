@@ -1,12 +1,12 @@
 -- The ways in which a move can end. Assumes nothing.
---   moves q r         a move other than a delivery, which appends one record
---   moves_twice       one that appends two
---   moves_on q        one that appends none
---   drops q           a delivery that changes nothing but got
---   heeds q           one that is heeded, and no more
---   acts q            one that is heeded and changes the process
---   acts_with q r     one that appends a record too
---   acts_twice        one that appends two
+--   moves q r       a move other than a delivery, which appends one record
+--   moves_twice     one that appends two
+--   moves_on q      one that appends none
+--   drops q         a delivery that changes nothing but got
+--   heeds q         one that is heeded, and no more
+--   acts q          one that is heeded and changes the process
+--   acts_with q r   one that appends a record too
+--   acts_twice      one that appends two
 use Rattle.std.specs.Prelude.{true, false, Some, None}
 use Rattle.wire.specs.declared.record.Record.{Record}
 use Rattle.protocol.specs.declared.process.Process.{Process}

@@ -1,10 +1,10 @@
 -- The synchronizer: from view to view, and from epoch to epoch. Assumes nothing.
---   last_place s          the last place of an epoch
---   on_view_expiry         the next view of the epoch, whose leader is l; or the epoch is completed
+--   last_place s         the last place of an epoch
+--   on_view_expiry       the next view of the epoch, whose leader is l; or the epoch is completed
 --   awaiting s q e       the process in epoch e, its view timer off and its spread timer armed afresh
---   on_epoch_completed     from so many senders
---   on_enter_epoch         whether its certificate holds
---   on_spread_expiry       the first view of the epoch is entered; l is its leader
+--   on_epoch_completed   from so many senders
+--   on_enter_epoch       whether its certificate holds
+--   on_spread_expiry     the first view of the epoch is entered; l is its leader
 use Rattle.std.specs.Prelude.{ℕ, ◌+◌, Bool, cond, ◌&&◌, nat_le, nat_lt}
 use Rattle.committee.specs.Thresholds.{quorum_of}
 use Rattle.committee.specs.Views.{view_of}

@@ -1,11 +1,11 @@
 -- The view core: what a leader proposes, and what processes vote for. Assumes nothing.
---   leading w k           the view core of a leader that has just proposed w
---   on_view_change          whether this process leads and the certificate holds, from so many senders, with the best backing b among them
---   unlocked k r          the lock lets the process vote for the proposal
+--   leading w k               the view core of a leader that has just proposed w
+--   on_view_change            whether this process leads and the certificate holds, from so many senders, with the best backing b among them
+--   unlocked k r              the lock lets the process vote for the proposal
 --   on_prepare, on_precommit, on_commit   l is the leader of the view
---   on_decide              whether its certificate holds
---   phase_of b, next_kind b the number of a phase, and the kind that a quorum of its votes leads to
---   on_vote                a vote of the phase b
+--   on_decide                 whether its certificate holds
+--   phase_of b, next_kind b   the number of a phase, and the kind that a quorum of its votes leads to
+--   on_vote                   a vote of the phase b
 use Rattle.std.specs.Prelude.{ℕ, ◌+◌, Bool, cond, ◌&&◌, ◌||◌, ◌==◌, nat_le, nat_lt}
 use Rattle.committee.specs.Thresholds.{quorum_of}
 use Rattle.wire.specs.declared.kind.Kind.{Kind}

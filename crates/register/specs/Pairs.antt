@@ -1,10 +1,10 @@
 -- A set of pairs as a list in which none stands twice, and what signing does to it. Assumes nothing.
---   same_statement s t    the two statements are one
---   is_pair p s x         x is the pair of process p and statement s
---   has_pair xs p s       the list has that pair
---   distinct_pairs xs     no pair stands twice
+--   same_statement s t   the two statements are one
+--   is_pair p s x        x is the pair of process p and statement s
+--   has_pair xs p s      the list has that pair
+--   distinct_pairs xs    no pair stands twice
 --   Low xs               each process is from 0 to 30
---   signers_of xs s       how many processes are paired with the statement
+--   signers_of xs s      how many processes are paired with the statement
 --   Admits               whether a pair is to be put in, is held already, or why it is refused
 --   Signs                what signing a pair answers, and what becomes of the set
 use Rattle.std.specs.Prelude.{◌≡◌, ℕ, ◌+◌, ◌<◌, ◌≤◌, Bool, true, false, cond, not, ◌&&◌, ◌||◌, List, [], ◌∷◌, length, Ok, Err, Result, ◌==◌}

@@ -1,11 +1,11 @@
 -- Rows of signers, and the set of pairs that they stand for. Assumes nothing.
---   row_pairs n r     the pairs of the processes below n that the row has
---   pairs_of rs       the pairs of all rows
---   listed rs s      some row has the statement
---   sound rs         each statement has one row, and each signer is from 0 to 30
---   Found rs i s     row i is the first that has the statement
---   row_signers rs s  the signers of the statement, none where it has no row
---   add_to rs p s     the rows with process p among the signers of the statement
+--   row_pairs n r      the pairs of the processes below n that the row has
+--   pairs_of rs        the pairs of all rows
+--   listed rs s        some row has the statement
+--   sound rs           each statement has one row, and each signer is from 0 to 30
+--   Found rs i s       row i is the first that has the statement
+--   row_signers rs s   the signers of the statement, none where it has no row
+--   add_to rs p s      the rows with process p among the signers of the statement
 use Rattle.std.specs.Prelude.{◌≡◌, ℕ, zero, suc, ◌^◌, ◌<◌, Bool, true, false, cond, not, ◌&&◌, ◌||◌, List, [], ◌∷◌, ◌++◌, length, nat_lt, slice_index_or}
 use Rattle.committee.specs.declared.sets.ProcessSet.{ProcessSet}
 use Rattle.committee.specs.Sets.{contains, with_member, of_bits}

@@ -1,7 +1,7 @@
 // The roll keeps single pairs in the order of signing.
 ghost use Rattle.std.specs.Prelude.{◌≡◌, ◌<◌, ◌≤◌, true, false, [], length, IfOk, vec_len, vec_capacity};
 ghost use Rattle.register.specs.Pairs.{has_pair, distinct_pairs, Low, Added};
-ghost use Rattle.std.proofs.Common.{rules, arith};
+ghost use Rattle.std.proofs.Common.{rules};
 
 use crate::distinct::count_distinct;
 use crate::ledger::{Register, Unsigned, admits};
@@ -51,13 +51,13 @@ impl Register for Roll {
 
     ghost pairs = { λ r. r.pairs.items };
 
-    ghost roomy = { first_of (Prim.search rules, Prim.grind (arith, Self.row.coded.inj)) };
+    ghost roomy = { Prim.search rules };
 
-    ghost distinct = { first_of (Prim.search rules, Prim.grind (arith, Self.row.coded.inj)) };
+    ghost distinct = { Prim.search rules };
 
-    ghost low = { first_of (Prim.search rules, Prim.grind (arith, Self.row.coded.inj)) };
+    ghost low = { Prim.search rules };
 
-    ghost within = { first_of (Prim.search rules, Prim.grind (arith, Self.row.coded.inj)) };
+    ghost within = { Prim.search rules };
 
     fn capacity() -> usize {
         Self::ROOM

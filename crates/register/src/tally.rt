@@ -4,7 +4,7 @@ ghost use Rattle.register.specs.Distinct.{Gathered};
 ghost use Rattle.register.specs.Pairs.{has_pair, Added};
 ghost use Rattle.register.specs.Rows.{pairs_of, sound, listed, Found, add_to};
 ghost use Rattle.register.specs.RowPairs.{distinct_pairs_lem, low_pairs};
-ghost use Rattle.std.proofs.Common.{rules, arith};
+ghost use Rattle.std.proofs.Common.{rules};
 
 use crate::ledger::{Register, Unsigned, admits};
 use crate::pair::{Pair, Statement};
@@ -98,13 +98,13 @@ impl Register for Tally {
 
     ghost pairs = { λ r. pairs_of r.rows.items };
 
-    ghost roomy = { first_of (Prim.search rules, Prim.grind (arith, Self.row.coded.inj)) };
+    ghost roomy = { Prim.search rules };
 
     ghost distinct = { λ r. distinct_pairs_lem r.rows.items r.fine };
 
     ghost low = { λ r. low_pairs r.rows.items };
 
-    ghost within = { first_of (Prim.search rules, Prim.grind (arith, Self.row.coded.inj)) };
+    ghost within = { Prim.search rules };
 
     fn capacity() -> usize {
         Self::ROOM

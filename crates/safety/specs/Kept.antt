@@ -1,9 +1,9 @@
 -- What holds at every moment of a run. Assumes nothing.
---   Kept leader m      the facts of the wire, the ties of every correct process, and a register that holds just what the records sign
---   KeptBut            the same of all processes but one
---   Sendable           a record that a process may append; only a correct one is bound to the law
---   Good               what a step of process p has to show of its new fields and its records
---   Room m o           two records are free, where one is to be appended
+--   Kept leader m   the facts of the wire, the ties of every correct process, and a register that holds just what the records sign
+--   KeptBut         the same of all processes but one
+--   Sendable        a record that a process may append; only a correct one is bound to the law
+--   Good            what a step of process p has to show of its new fields and its records
+--   Room m o        two records are free, where one is to be appended
 use Rattle.std.specs.Prelude.{◌≡◌, ℕ, ◌+◌, ◌<◌, ◌≤◌, [], ◌∷◌, ◌++◌, length, Some, None, Option, ◌≢◌}
 use Rattle.counting.specs.Counts.{any}
 use Rattle.committee.specs.declared.membership.Committee.{Committee}

@@ -1,15 +1,15 @@
 -- What is promised of every sitting, from a new board and an empty register, after any moves. Assumes nothing.
---   IsMember c p      p is a correct process of the committee
---   HasDecided t p x  process p has decided the value x
---   HasProposed t p x process p has proposed the value x
---   EpochOrder       whoever is in epoch e + 1 has f + 1 correct processes behind it that went through epoch e
---   Agreement         no two correct processes have decided differently
---   Unanimity         where all correct proposals are w, so is every correct decision; and with no correct proposal there is none
---   FewWords         the words of certification, and of each epoch, are few
---   Stable            no further move changes a correct decision
---   Promises          all of these, for every rota and register
---   Begins            a board that is opened on an empty register begins a run, on whatever wire, with all that is promised
---   Keeps             what starts as a sitting of a run ends as one, and with all that is promised
+--   IsMember c p        p is a correct process of the committee
+--   HasDecided t p x    process p has decided the value x
+--   HasProposed t p x   process p has proposed the value x
+--   EpochOrder          whoever is in epoch e + 1 has f + 1 correct processes behind it that went through epoch e
+--   Agreement           no two correct processes have decided differently
+--   Unanimity           where all correct proposals are w, so is every correct decision; and with no correct proposal there is none
+--   FewWords            the words of certification, and of each epoch, are few
+--   Stable              no further move changes a correct decision
+--   Promises            all of these, for every rota and register
+--   Begins              a board that is opened on an empty register begins a run, on whatever wire, with all that is promised
+--   Keeps               what starts as a sitting of a run ends as one, and with all that is promised
 use Rattle.std.specs.Prelude.{◌≡◌, ℕ, ◌+◌, ◌*◌, ◌<◌, ◌≤◌, Bool, true, false}
 use Rattle.counting.specs.Counts.{count_to}
 use Rattle.committee.specs.declared.membership.Committee.{Committee}

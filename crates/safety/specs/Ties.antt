@@ -1,8 +1,8 @@
 -- What ties the fields of a correct process to what it has sent. Assumes nothing.
---   Past q k m       a process with the fields q may have sent a record of the kind with number k and the number m
---   Advances q u     how far a process has come: what no move undoes
---   Tied c ws p q    process p, with the fields q, has sent what its fields say, and no more
---   Capped c ws p q  until it runs, no value has a weak quorum among the disclosures that it has heeded
+--   Past q k m        a process with the fields q may have sent a record of the kind with number k and the number m
+--   Advances q u      how far a process has come: what no move undoes
+--   Tied c ws p q     process p, with the fields q, has sent what its fields say, and no more
+--   Capped c ws p q   until it runs, no value has a weak quorum among the disclosures that it has heeded
 use Rattle.std.specs.Prelude.{◌≡◌, ℕ, ◌+◌, ◌-◌, ◌*◌, ◌<◌, ◌≤◌, true, false, ◌⊎◌}
 use Rattle.counting.specs.Counts.{any, count_to}
 use Rattle.committee.specs.declared.membership.Committee.{Committee}

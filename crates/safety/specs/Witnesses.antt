@@ -1,11 +1,11 @@
 -- Sittings that there are: the promises are not kept by there being no runs. Assumes nothing.
---   in_turn         four processes that lead in turn, process v mod 4 in view v
---   pairs_held      a register that is its list of pairs
---   four            a committee of four, none of them faulty
---   SomeDecide      a run at whose end two correct processes have decided one value
---   SomeAdvance     a run at whose end a correct process is in epoch 2
-use Rattle.std.specs.Prelude.{◌≡◌, ℕ, ◌%◌, ◌<◌, List, refl}
-use Rattle.std.proofs.Common.{lit<, lit≤}
+--   in_turn       four processes that lead in turn, process v mod 4 in view v
+--   pairs_held    a register that is its list of pairs
+--   four          a committee of four, none of them faulty
+--   SomeDecide    a run at whose end two correct processes have decided one value
+--   SomeAdvance   a run at whose end a correct process is in epoch 2
+use Rattle.std.specs.Prelude.{◌≡◌, ℕ, ◌%◌, ◌<◌, ◌≤◌, List, refl}
+use Rattle.std.proofs.Common.{sym, subst, lit<, lit≤}
 use lib.Count.{ones}
 use Rattle.committee.specs.declared.membership.Committee.{Committee}
 use Rattle.committee.specs.Sets.{of_bits}
@@ -23,9 +23,14 @@ in_turn = record { size = λ _. 4; leader = λ _ v. v % 4 }
 abbrev pub pairs_held : RegisterMeans (List Pair)
 pairs_held = record { room = 2048; pairs = λ xs. xs }
 
-unfoldable pub four : Committee
+pub none_faulty : ones 0 ≡ 0
 unfolding ones
-four = record { n = 4; f = 1; faulty = of_bits 0; low = lit≤ tt; high = lit≤ tt; whole = refl; inside = lit< tt; few = lit≤ tt }
+none_faulty = refl
+
+unfoldable pub four : Committee
+four =
+    let Few : ℕ → Type 0 = λ k. k ≤ 1 in
+    record { n = 4; f = 1; faulty = of_bits 0; low = lit≤ tt; high = lit≤ tt; whole = refl; inside = lit< tt; few = subst Few (sym none_faulty) (lit≤ tt) }
 
 pub record SomeDecide : Type 0 where
   pub end : Sitting (Unit {0}) (List Pair)

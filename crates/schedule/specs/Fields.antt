@@ -1,14 +1,14 @@
 -- The field at a place of a schedule. Assumes nothing.
---   tag_at, length_at      the byte that is the field's tag, and the length that the field states
---   behind_at             the place behind the field
---   whole_at              whether the schedule holds all of the field
---   content_at            the bytes behind the tag and the length
---   cut_fault, move_fault  a fault of each layer
---   IsField, IsCut       a field of the code as it stands there; the fault of one that is cut short
---   HandsOut             what the field layer answers
---   known                the tag of a whole field, or its fault: 17 before 18
---   known_at              the tag of the field at a place, or its fault: 16, 17, 18 in this order
---   HandsTagged          what the field layer answers, with the tag known and the length right
+--   tag_at, length_at       the byte that is the field's tag, and the length that the field states
+--   behind_at               the place behind the field
+--   whole_at                whether the schedule holds all of the field
+--   content_at              the bytes behind the tag and the length
+--   cut_fault, move_fault   a fault of each layer
+--   IsField, IsCut          a field of the code as it stands there; the fault of one that is cut short
+--   HandsOut                what the field layer answers
+--   known                   the tag of a whole field, or its fault: 17 before 18
+--   known_at                the tag of the field at a place, or its fault: 16, 17, 18 in this order
+--   HandsTagged             what the field layer answers, with the tag known and the length right
 use Rattle.std.specs.Prelude.{◌≡◌, ℕ, ◌+◌, Bool, true, false, cond, List, length, take, drop, Some, None, Ok, Err, Option, Result, MatchResult, nat_le, slice_index}
 use Rattle.refusals.specs.declared.causes.Refusal.{Refusal}
 use Rattle.refusals.specs.declared.causes.Refusal.TheVariants.{CutShort, UnknownTag, WrongLength}

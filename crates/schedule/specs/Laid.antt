@@ -1,12 +1,12 @@
 -- The law of the reader: the fields handed out, each with its tag and length, laid end to end, are the schedule up to
 -- its first fault or its end: no byte is skipped, read twice, or read behind the end. Assumes nothing.
---   in_place      whether a tag may stand at a byte: OPEN first, ROTA behind the 17 bytes of OPEN, the others behind OPEN
---   fault_at      the fault of the field at a place, if any: the lowest number answers
+--   in_place     whether a tag may stand at a byte: OPEN first, ROTA behind the 17 bytes of OPEN, the others behind OPEN
+--   fault_at     the fault of the field at a place, if any: the lowest number answers
 --   Piece        a field: where its tag stands, the tag, and the content
 --   fields       the fields that are handed out, up to the end or the first faulty one; an OPEN before a faulty ROTA
 --                is one of them, though no move is made of it
---   laid_piece    a field as bytes: its tag, its length in two bytes, its content
---   stop_of       the byte of the first fault, or the schedule's length
+--   laid_piece   a field as bytes: its tag, its length in two bytes, its content
+--   stop_of      the byte of the first fault, or the schedule's length
 --   LaidOut      the law, of one schedule
 use Rattle.std.specs.Prelude.{◌≡◌, ℕ, ◌-◌, ◌/◌, ◌%◌, Bool, cond, List, [], ◌∷◌, length, take, Some, None, Ok, Err, Option, Result, ◌==◌, nat_lt}
 use Rattle.std.specs.List.{flat_map}

@@ -1,9 +1,9 @@
 -- The move that begins at a place of a schedule. Assumes nothing.
 --   Step          an order, and the place behind its fields
 --   opened        OPEN with the numbers in its content, and the list behind it, if any
---   open_at        OPEN with the ROTA behind it, or the fault of that ROTA
---   later_order    the order of a field that is not the first, if it begins a move
---   move_at        the move that begins at a place, or the fault that stands in its way
+--   open_at       OPEN with the ROTA behind it, or the fault of that ROTA
+--   later_order   the order of a field that is not the first, if it begins a move
+--   move_at       the move that begins at a place, or the fault that stands in its way
 --   Makes         that the code answers such a move or fault
 use Rattle.std.specs.Prelude.{◌≡◌, ℕ, Bool, cond, List, Some, None, Ok, Err, Option, Result, ◌==◌, slice_index}
 use Rattle.refusals.specs.declared.causes.Refusal.TheVariants.{OutOfPlace}

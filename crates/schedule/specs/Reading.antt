@@ -1,12 +1,12 @@
 -- What is read off a schedule, as a function of its bytes. Assumes nothing.
---   ReadsOne      what one call of the reader answers, and where it stands after
---   walk          steps from place to place, at most so many
---   Reading       the moves up to the end or the first fault, and that fault
+--   ReadsOne       what one call of the reader answers, and where it stands after
+--   walk           steps from place to place, at most so many
+--   Reading        the moves up to the end or the first fault, and that fault
 --   reading_from   what is read from a place on; as many steps as bytes are left always suffice
---   reading       what is read off a whole schedule
---   Unrolled      that reading goes from move to move, and that no bound on the steps cuts it short
---   Appends       that these moves, and nothing else, were put behind what a list held
---   ReadsAll      what is answered where this was to be read, and what is appended
+--   reading        what is read off a whole schedule
+--   Unrolled       that reading goes from move to move, and that no bound on the steps cuts it short
+--   Appends        that these moves, and nothing else, were put behind what a list held
+--   ReadsAll       what is answered where this was to be read, and what is appended
 use Rattle.std.specs.Prelude.{◌≡◌, ℕ, zero, suc, ◌-◌, ◌<◌, ◌≤◌, cond, List, [], ◌∷◌, ◌++◌, map, length, take, Some, None, Ok, Err, Option, Result, nat_lt}
 use Rattle.moves.specs.declared.faults.Fault.{Fault}
 use Rattle.moves.specs.declared.orders.Placed.{Placed}

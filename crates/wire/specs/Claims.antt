@@ -1,6 +1,6 @@
 -- The certificate that a record claims, and when it holds. Assumes nothing.
---   vouched c w x      a weak quorum has disclosed the value x, or allows any, as the vouch w says
---   prepared c v b x   a quorum has voted in the earlier view b to prepare x
+--   vouched c w x       a weak quorum has disclosed the value x, or allows any, as the vouch w says
+--   prepared c v b x    a quorum has voted in the earlier view b to prepare x
 --   claim_of c r        the certificate that the record claims
 --   claim_holds k has   whether it holds, where `has p s` says that process p has signed the statement s
 use Rattle.std.specs.Prelude.{ℕ, ◌-◌, Bool, true, false, cond, ◌==◌, nat_le, nat_lt}

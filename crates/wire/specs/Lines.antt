@@ -3,7 +3,7 @@
 --   width         how many bytes a line fills
 --   padded t      the text, with blanks to the end of the line
 --   a then b      two columns with one blank between
---   line_of i r    the line of the record r, which stands at place i of the wire
+--   line_of i r   the line of the record r, which stands at place i of the wire
 use Rattle.std.specs.Prelude.{ℕ, ◌-◌, List, [], ◌∷◌, ◌++◌, length, replicate, decimal}
 use Rattle.wire.specs.declared.record.Record.{Record}
 use Rattle.wire.specs.Kinds.{kind_name}

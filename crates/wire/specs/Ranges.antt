@@ -1,11 +1,11 @@
 -- Which records are in range. Assumes nothing.
---   of_view k           kinds 6 to 13, whose number is a view
---   number_fits r       the number is one for the record's kind
---   value_fits r        the value is given just where the kind has one
---   back_fits r         the view that backs the value
---   vouch_fits r        the vouch is given just where the kind has one
---   sets_fit n r        the sender and the members of the three sets are below n, and it goes to somebody
---   inRange n r        all of these
+--   of_view k       kinds 6 to 13, whose number is a view
+--   number_fits r   the number is one for the record's kind
+--   value_fits r    the value is given just where the kind has one
+--   back_fits r     the view that backs the value
+--   vouch_fits r    the vouch is given just where the kind has one
+--   sets_fit n r    the sender and the members of the three sets are below n, and it goes to somebody
+--   inRange n r     all of these
 use Rattle.std.specs.Prelude.{ℕ, ◌^◌, Bool, cond, not, ◌&&◌, ◌||◌, ◌==◌, nat_le, nat_lt}
 use Rattle.committee.specs.Views.{is_view, last_view}
 use Rattle.wire.specs.declared.kind.Kind.{Kind}

@@ -1,6 +1,6 @@
 -- What the sender of a record signs. Assumes nothing.
 --   statement k m x   the statement of these three numbers
---   share_of r         the statement that the record signs, if any
+--   share_of r        the statement that the record signs, if any
 use Rattle.std.specs.Prelude.{ℕ, Some, None, Option}
 use Rattle.register.specs.declared.pair.Statement.{Statement}
 use Rattle.wire.specs.declared.kind.Kind.{Kind}
