@@ -3,8 +3,7 @@
 --   expiring t                    the view timer of a process that began at 0, with delays of 10 and 5 ticks, expires at t
 --   entering k                    ENTER-EPOCH 2 comes to a process in epoch 1, where k processes have completed it
 --   move_cases                    each case as a test
-use Rattle.std.specs.Prelude.{ℕ, ◌%◌, Bool, true, false, List, [], ◌∷◌, replicate, take, Ok, Err, Result, eqb}
-use Rattle.std.proofs.Math.ListN.{set}
+use Rattle.std.specs.Prelude.{ℕ, ◌%◌, Bool, true, false, List, [], ◌∷◌, replicate, slice_set, take, Ok, Err, Result, eqb}
 use Rattle.refusals.specs.declared.causes.Refusal.{Refusal}
 use Rattle.refusals.specs.Numbers.{refusal_number}
 use Rattle.committee.specs.Sets.{of_bits}
@@ -64,7 +63,7 @@ begun_before t = later (begun setting (with_certification (certification_of Cert
 
 -- process 0 is the only one that runs
 abbrev pub after : ℕ → List Record → ℕ → List Pair → Moment
-after t wire used pairs = moment (record { setting = setting; processes = set (replicate 31 blank_process) 0 (begun_before t); used = used }) wire (signed_of pairs)
+after t wire used pairs = moment (record { setting = setting; processes = slice_set (replicate 31 blank_process) 0 (begun_before t); used = used }) wire (signed_of pairs)
 
 abbrev pub expiring : ℕ → Result Step Refusal
 expiring t = expire_plan by_turns 4 64 (after t (replicate 2 no_record) 0 []) 0 1

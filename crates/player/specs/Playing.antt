@@ -1,9 +1,9 @@
 -- The play of moves one after another, as a function of the moment. Assumes nothing.
---   Told       what a move answers, and the moment that it leaves
---   draft_of   what an injection's numbers draft
---   made       one move on a board: each as its call has it; a board is opened only once
---   Played     what is printed of the moves, and the moment that they leave
---   playing    the moves in their order, numbered from k on
+--   Told      what a move answers, and the moment that it leaves
+--   drafted   what an injection's numbers draft
+--   made      one move on a board: each as its call has it; a board is opened only once
+--   Played    what is printed of the moves, and the moment that they leave
+--   playing   the moves in their order, numbered from k on
 use Rattle.std.specs.Prelude.{ℕ, ◌+◌, List, [], ◌∷◌, ◌++◌, Err, Result}
 use Rattle.refusals.specs.declared.causes.Refusal.{Refusal}
 use Rattle.refusals.specs.declared.causes.Refusal.TheVariants.{OutOfPlace}

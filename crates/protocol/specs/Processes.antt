@@ -2,7 +2,7 @@
 --   idle, certifying, running   the phase
 --   mark v x                    the value x with the view v
 --   blank_process               a process that has done nothing: every field is 0
---   with-…                      the process with that field, or that group of fields, changed
+--   with_…                      the process with that field, or that group of fields, changed
 use Rattle.std.specs.Prelude.{ℕ, Bool, true, false}
 use Rattle.wire.specs.declared.vouch.Vouch.{Vouch}
 use Rattle.wire.specs.declared.vouch.Vouch.TheVariants.{Nothing}

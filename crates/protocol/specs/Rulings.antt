@@ -1,6 +1,7 @@
 -- The rules of a delivery and an expiry over the plain values that they read, as the plans make them up. Assumes nothing.
 --   holding      the certificate that the record claims holds by what is signed
 --   heard_from   how many senders the process heeds of such records, the record's own included
+--   voted_on     the rule of a vote of this phase
 --   ruled_on     the rule of the record's kind
 --   ahead        the record is of a view that the process has not reached
 --   taken        what a correct process makes of a record that is delivered to it

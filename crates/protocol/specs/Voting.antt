@@ -1,5 +1,5 @@
 -- The view core: what a leader proposes, and what processes vote for. Assumes nothing.
---   leading w k               the view core of a leader that has just proposed w
+--   proposing                 the process, leading view v, proposes the value that b backs, or its offer where nothing backs one
 --   on_view_change            whether this process leads and the certificate holds, from so many senders, with the best backing b among them
 --   unlocked k r              the lock lets the process vote for the proposal
 --   on_prepare, on_precommit, on_commit   l is the leader of the view

@@ -5,7 +5,7 @@
 --   back_fits r     the view that backs the value
 --   vouch_fits r    the vouch is given just where the kind has one
 --   sets_fit n r    the sender and the members of the three sets are below n, and it goes to somebody
---   inRange n r     all of these
+--   in_range n r    all of these
 use Rattle.std.specs.Prelude.{ℕ, ◌^◌, Bool, cond, not, ◌&&◌, ◌||◌, ◌==◌, nat_le, nat_lt}
 use Rattle.committee.specs.Views.{is_view, last_view}
 use Rattle.wire.specs.declared.kind.Kind.{Kind}
