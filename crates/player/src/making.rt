@@ -1,17 +1,34 @@
 // One move of a schedule, made on an open board.
+ghost use Rattle.std.specs.Prelude.{◌≡◌};
 ghost use Rattle.moves.specs.Orders.{order_of};
+ghost use Rattle.protocol.specs.Drafts.{draft_as};
 ghost use Rattle.protocol.specs.Runs.{sitting};
 ghost use Rattle.player.specs.Making.{MakesMove};
+ghost use Rattle.player.specs.Playing.{drafted};
 
 pub mod playing;
 
 use board::{deliver, expire, inject, propose, tick};
 use committee::{ProcessSet, Rota};
-use moves::Move;
+use moves::{Injection, Move};
 use protocol::{Answer, Board, Draft};
 use refusals::Refusal;
 use register::Register;
 use wire::Record;
+
+// Neither type is this crate's, so this is no `From`.
+fn draft_of(injection: Injection) -> Draft
+    ensures { draft_as result ≡ drafted injection.kind injection.to injection.number injection.value injection.back injection.vouch }
+{
+    Draft {
+        kind: injection.kind,
+        to: ProcessSet { bits: injection.to },
+        number: injection.number,
+        value: injection.value,
+        back: injection.back,
+        vouch: injection.vouch,
+    }
+}
 
 // A board is opened only once: another OPEN is out of place, and changes nothing.
 fn make<R: Rota, G: Register>(
@@ -29,15 +46,7 @@ fn make<R: Rota, G: Register>(
         Move::Expire { process, timer } => expire(board, wire, register, process, timer),
         Move::Deliver { record, process } => deliver(board, wire, register, record, process),
         Move::Inject(injection) => {
-            let draft = Draft {
-                kind: injection.kind,
-                to: ProcessSet { bits: injection.to },
-                number: injection.number,
-                value: injection.value,
-                back: injection.back,
-                vouch: injection.vouch,
-            };
-            inject(board, wire, register, injection.sender, draft)
+            inject(board, wire, register, injection.sender, draft_of(injection))
         }
     }
 }

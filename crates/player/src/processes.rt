@@ -8,7 +8,7 @@ use protocol::{Process, Table};
 use std::fmt;
 
 // The line of a process that runs: its number, epoch, view and decision.
-fn write_process(number: u8, process: &Process, text: &mut String) -> fmt::Result
+fn write_process(number: usize, process: &Process, text: &mut String) -> fmt::Result
     ensures { OnOk result (string_bytes text.new ≡ string_bytes text.old ++ (if running process.now.certification.phase then process_line number process.now else [])) }
 {
     let Phase::Running = process.certification.phase else {
@@ -21,18 +21,14 @@ fn write_process(number: u8, process: &Process, text: &mut String) -> fmt::Resul
     Ok(())
 }
 
-fn write_all(table: &Table, text: &mut String) -> fmt::Result
-    ensures { OnOk result (string_bytes text.new ≡ string_bytes text.old ++ process_lines 0 (take table.now.setting.committee.n table.now.processes)) }
-{
-    for number in 0..table.setting.committee.n {
-        write_process(number, &table.processes[usize::from(number)], text)?;
-    }
-    Ok(())
-}
-
 // Appends a line for each process that runs, from the lowest number up.
+#[tactic(auto, using(crate::proofs::Standing::standing))]
 pub fn write_processes(table: &Table, text: &mut String) -> fmt::Result
     ensures { OnOk result (string_bytes text.new ≡ string_bytes text.old ++ process_lines 0 (take table.now.setting.committee.n table.now.processes)) }
 {
-    write_all(table, text)
+    let members = &table.processes[..usize::from(table.setting.committee.n)];
+    for (number, process) in members.iter().enumerate() {
+        write_process(number, process, text)?;
+    }
+    Ok(())
 }

@@ -1,44 +1,20 @@
 // Outcomes as text.
 ghost use Rattle.std.specs.Prelude.{◌≡◌, Some};
-ghost use Rattle.player.specs.Outcomes.{outcome_word, outcome_number, outcome_text, outcome_of};
+ghost use Rattle.player.specs.Outcomes.{outcome_text, outcome_of};
 
 use crate::outcome::Outcome;
 use protocol::Answer;
 use refusals::Refusal;
 use std::fmt;
 
-impl Outcome {
-    // The outcome of a move on a board.
-    pub(crate) fn of(answer: Result<Answer, Refusal>) -> Outcome
-        ensures { result ≡ outcome_of answer }
-    {
+// The outcome of a move on a board.
+impl From<Result<Answer, Refusal>> for Outcome {
+    ghost from_gives = { λ answer outcome. outcome ≡ outcome_of answer };
+
+    fn from(answer: Result<Answer, Refusal>) -> Outcome {
         match answer {
             Ok(told) => Outcome::Answered(told),
             Err(cause) => Outcome::Refused(cause),
-        }
-    }
-
-    fn word(self) -> &'static str
-        ensures { result.now ≡ outcome_word self }
-    {
-        match self {
-            Outcome::Opened(_) => "opened",
-            Outcome::Answered(Answer::Moved(_)) => "moved",
-            Outcome::Answered(Answer::Dropped) => "dropped",
-            Outcome::Answered(Answer::Heeded) => "heeded",
-            Outcome::Answered(Answer::Acted(_)) => "acted",
-            Outcome::Refused(_) => "refused",
-        }
-    }
-
-    fn number(self) -> u8
-        ensures { result ≡ outcome_number self }
-    {
-        match self {
-            Outcome::Opened(n) => n,
-            Outcome::Answered(Answer::Moved(appended) | Answer::Acted(appended)) => appended,
-            Outcome::Answered(Answer::Dropped | Answer::Heeded) => 0,
-            Outcome::Refused(cause) => cause.number(),
         }
     }
 }
@@ -47,8 +23,13 @@ impl fmt::Display for Outcome {
     ghost output = { λ outcome. Some (outcome_text outcome) };
 
     fn fmt<W: fmt::Write>(&self, f: &mut fmt::Formatter<W>) -> fmt::Result {
-        let word = self.word();
-        let number = self.number();
-        write!(f, "{word} {number}")
+        match self {
+            Outcome::Opened(n) => write!(f, "opened {n}"),
+            Outcome::Answered(Answer::Moved(appended)) => write!(f, "moved {appended}"),
+            Outcome::Answered(Answer::Dropped) => write!(f, "dropped 0"),
+            Outcome::Answered(Answer::Heeded) => write!(f, "heeded 0"),
+            Outcome::Answered(Answer::Acted(appended)) => write!(f, "acted {appended}"),
+            Outcome::Refused(cause) => write!(f, "refused {}", cause.number()),
+        }
     }
 }

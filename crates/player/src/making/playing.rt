@@ -15,26 +15,7 @@ use std::fmt;
 use wire::Record;
 
 // The board was opened by the first move.
-const SECOND_MOVE: u64 = 2;
-
-fn play_on<R: Rota, G: Register>(
-    board: &mut Board<R>,
-    wire: &mut [Record],
-    register: &mut G,
-    moves: &[Placed<'_>],
-    text: &mut String,
-) -> fmt::Result
-    ensures plays { OnOk result (PlaysOut R.Rota G.Register (sitting board.old wire.old register.old) (map placed_of moves.now) (sitting board.new wire.new register.new) (string_bytes text.old) (string_bytes text.new)) }
-    ensures keeps { Keeps R.Rota G.Register (sitting board.old wire.old register.old) (sitting board.new wire.new register.new) }
-{
-    let mut number = SECOND_MOVE;
-    for placed in moves {
-        let outcome = Outcome::of(make(board, wire, register, placed.order));
-        writeln!(text, "{number} {outcome}")?;
-        number += 1;
-    }
-    Ok(())
-}
+const SECOND_MOVE: usize = 2;
 
 // Plays the moves on an open board, whatever each of them is answered, and appends a line for each.
 pub fn play<R: Rota, G: Register>(
@@ -47,5 +28,9 @@ pub fn play<R: Rota, G: Register>(
     ensures plays { OnOk result (PlaysOut R.Rota G.Register (sitting board.old wire.old register.old) (map placed_of moves.now) (sitting board.new wire.new register.new) (string_bytes text.old) (string_bytes text.new)) }
     ensures keeps { Keeps R.Rota G.Register (sitting board.old wire.old register.old) (sitting board.new wire.new register.new) }
 {
-    play_on(board, wire, register, moves, text)
+    for (index, placed) in moves.iter().enumerate() {
+        let outcome = Outcome::from(make(board, wire, register, placed.order));
+        writeln!(text, "{} {outcome}", SECOND_MOVE + index)?;
+    }
+    Ok(())
 }
