@@ -15,11 +15,5 @@ pub fn edge_cases() -> usize
     ensures count { result ≡ length cases }
     ensures hold { all_hold cases ≡ true }
 {
-    cases_stand();
     6
 }
-
-// A lemma as a call: it computes nothing, and its contract is the fact.
-fn cases_stand()
-    ensures { all_hold cases ≡ true }
-{}

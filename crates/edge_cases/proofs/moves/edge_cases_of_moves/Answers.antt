@@ -2,8 +2,8 @@ use Rattle.std.proofs.Common.{refl}
 use lib.Count.{ones}
 use Rattle.counting.specs.Counts.{any, every, sum_to}
 use Rattle.safety.specs.Witnesses.{four}
-use Rattle.edge_cases.proofs.moves.move_cases_stand.Goals as goal
+use Rattle.edge_cases.proofs.moves.edge_cases_of_moves.Goals as goal
 
-pub returns : goal.returns
+pub returns-clause-hold : goal.returns-clause-hold
 unfolding ones any every sum_to four
-returns c = refl
+returns-clause-hold c = refl
