@@ -1,3 +1,4 @@
 pub mod Schedules
+pub mod Registers
 pub mod Sitting
 pub mod Rotas

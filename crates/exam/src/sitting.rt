@@ -1,26 +1,29 @@
 // A sitting on a new board: the line of its opening, its moves, and what stands at its end.
-ghost use Rattle.std.specs.Prelude.{◌≡◌, [], ◌++◌, map, string_bytes, OnOk};
+ghost use Rattle.std.specs.Prelude.{◌≡◌, [], ◌++◌, length, string_bytes, OnOk};
 ghost use Rattle.std.specs.Option.{option_map};
-ghost use Rattle.moves.specs.Orders.{placed_of};
-ghost use Rattle.protocol.specs.Ranges.{between};
 ghost use Rattle.player.specs.Outcomes.{line_of};
 ghost use Rattle.listing.specs.Lines.{fault_line};
 ghost use Rattle.exam.specs.Schedules.{ending, Behind};
-ghost use Rattle.exam.specs.Sitting.{lines_on, leads_by, ShowsBy};
+ghost use Rattle.exam.specs.Sitting.{lines_on, leads_by, OpensNamed, ShowsBy};
 
+mod registers;
 pub mod schedules;
 
 use board::open;
 use committee::{ProcessSet, Rota};
-use moves::{Fault, Placed};
+use moves::{Fault, Opening, Placed};
 use player::{Outcome, play, write_processes};
 use protocol::{Board, Table};
 use refusals::Refusal;
 use register::Register;
+use registers::RegisterKind;
 use std::fmt;
 use wire::{Kind, Record, Vouch};
 
-// What stands where nothing was sent yet.
+// OPEN.
+const FIRST_MOVE: u8 = 1;
+
+// What stands where nothing was sent yet. No kind is that of nothing, so a record has no default.
 const NO_RECORD: Record = Record {
     sender: 0,
     kind: Kind::Disclose,
@@ -33,44 +36,27 @@ const NO_RECORD: Record = Record {
     heeded: ProcessSet { bits: 0 },
 };
 
-// What OPEN gives besides its rota; the faulty processes are a set.
+// What stands behind OPEN in a schedule: the moves, and the fault behind them, if there is one.
 #[derive(Clone, Copy)]
-struct Terms {
-    register: u8,
-    f: u8,
-    faulty: ProcessSet,
-    delay: u32,
-    overlap: u32,
+struct Rest<'a> {
+    moves: &'a [Placed<'a>],
+    fault: Option<Fault>,
 }
 
-impl Terms {
-    // 1 is the tally, 2 the roll.
-    fn names_register(&self) -> bool
-        ensures { result ≡ between 1 self.now.register 2 }
-    {
-        (1 <= self.register) & (self.register <= 2)
-    }
-}
-
-// OPEN is the first move.
 fn write_opening(outcome: Outcome, text: &mut String) -> fmt::Result
     ensures { OnOk result (string_bytes text.new ≡ string_bytes text.old ++ line_of 1 outcome) }
 {
-    let first: u8 = 1;
-    writeln!(text, "{first} {outcome}")?;
+    writeln!(text, "{FIRST_MOVE} {outcome}")?;
     Ok(())
 }
 
 fn write_fault(fault: Option<Fault>, text: &mut String) -> fmt::Result
     ensures { OnOk result (string_bytes text.new ≡ string_bytes text.old ++ fault_line fault) }
 {
-    match fault {
-        Some(fault) => {
-            writeln!(text, "{fault}")?;
-            Ok(())
-        }
-        None => Ok(()),
+    if let Some(fault) = fault {
+        writeln!(text, "{fault}")?;
     }
+    Ok(())
 }
 
 fn write_ending(table: &Table, fault: Option<Fault>, text: &mut String) -> fmt::Result
@@ -82,48 +68,59 @@ fn write_ending(table: &Table, fault: Option<Fault>, text: &mut String) -> fmt::
     }
 }
 
-// The sitting on a board that is open.
-fn sit<R: Rota + Drop, G: Register>(
-    mut board: Board<R>,
-    register: &mut G,
-    rest: &[Placed<'_>],
-    fault: Option<Fault>,
-    text: &mut String,
-) -> fmt::Result
-    ensures { OnOk result (string_bytes text.new ≡ string_bytes text.old ++ lines_on R.Rota G.Register board register.old (map placed_of rest.now) fault) }
-{
-    let mut wire = [NO_RECORD; 1024];
-    write_opening(Outcome::Opened(board.table.setting.committee.n), text)?;
-    play(&mut board, &mut wire, register, rest, text)?;
-    write_ending(&board.table, fault, text)
-}
-
-// Opens the board, and goes on with the sitting unless that is refused. The number of the register is tested last.
-fn open_and_sit<R: Rota + Drop, G: Register>(
-    terms: Terms,
+// Opens the board that OPEN asks for. The number of the register is tested last.
+fn open_named<R: Rota + Drop, G: Register>(
+    opening: Opening<'_>,
     rota: Option<R>,
-    register: &mut G,
-    rest: &[Placed<'_>],
-    fault: Option<Fault>,
-    text: &mut String,
-) -> fmt::Result
-    requires { G.Register.pairs register.old ≡ [] }
-    ensures { OnOk result (Behind (ShowsBy (leads_by R.Rota rota) G.Register.room terms (option_map R.Rota.size rota) (map placed_of rest.now) fault) (string_bytes text.old) (string_bytes text.new)) }
+    register: &G,
+) -> Result<Board<R>, Refusal>
+    ensures { OpensNamed R.Rota opening.entry rota (length (G.Register.pairs register.now)) result }
 {
-    match open(
-        terms.f,
-        terms.faulty,
-        terms.delay,
-        terms.overlap,
+    let faulty = ProcessSet {
+        bits: opening.faulty,
+    };
+    let board = open(
+        opening.f,
+        faulty,
+        opening.delay,
+        opening.overlap,
         rota,
         register,
-    ) {
-        Err(cause) => write_opening(Outcome::Refused(cause), text),
-        Ok(board) => {
-            if !terms.names_register() {
-                return write_opening(Outcome::Refused(Refusal::FieldOutOfRange), text);
-            }
-            sit(board, register, rest, fault, text)
+    )?;
+    RegisterKind::try_from(opening.register)?;
+    Ok(board)
+}
+
+impl Rest<'_> {
+    // The sitting on a board that is open.
+    fn sit<R: Rota + Drop, G: Register>(
+        self,
+        mut board: Board<R>,
+        register: &mut G,
+        text: &mut String,
+    ) -> fmt::Result
+        ensures { OnOk result (string_bytes text.new ≡ string_bytes text.old ++ lines_on R.Rota G.Register board register.old self.entry) }
+    {
+        let mut wire = [NO_RECORD; 1024];
+        write_opening(Outcome::Opened(board.table.setting.committee.n), text)?;
+        play(&mut board, &mut wire, register, self.moves, text)?;
+        write_ending(&board.table, self.fault, text)
+    }
+
+    // Opens the board, and goes on with the sitting unless that is refused.
+    fn open_and_sit<R: Rota + Drop, G: Register>(
+        self,
+        opening: Opening<'_>,
+        rota: Option<R>,
+        register: &mut G,
+        text: &mut String,
+    ) -> fmt::Result
+        requires { G.Register.pairs register.old ≡ [] }
+        ensures { OnOk result (Behind (ShowsBy (leads_by R.Rota rota) G.Register.room opening.entry (option_map R.Rota.size rota) self.entry) (string_bytes text.old) (string_bytes text.new)) }
+    {
+        match open_named(opening, rota, register) {
+            Ok(board) => self.sit(board, register, text),
+            Err(cause) => write_opening(Outcome::Refused(cause), text),
         }
     }
 }

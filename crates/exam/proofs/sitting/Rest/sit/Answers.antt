@@ -7,15 +7,16 @@ use Rattle.player.specs.Outcomes.{line_of}
 use Rattle.player.specs.Playing.{playing}
 use Rattle.exam.specs.Schedules.{ending}
 use Rattle.exam.proofs.Opening.{lined_up}
-use Rattle.exam.proofs.sitting.sit.Goals as goal
+use Rattle.exam.proofs.sitting.Rest.sit.Goals as goal
 
 pub returns : goal.returns
 returns g c =
     let b = c.args.board in
+    let rest = c.args.self in
     let before = string_bytes c.args.text.now in
-    let p = playing (g.R.Rota.leader b.rota) (g.R.Rota.size b.rota) g.G.Register.room 2 (moment b.table (replicate 1024 no_record) (signed_of (g.G.Register.pairs c.args.register.now))) (map placed_of c.args.rest.now) in
+    let p = playing (g.R.Rota.leader b.rota) (g.R.Rota.size b.rota) g.G.Register.room 2 (moment b.table (replicate 1024 no_record) (signed_of (g.G.Register.pairs c.args.register.now))) (map placed_of rest.moves.now) in
     let played = c.in_ok-play.ensures.plays in
     IfOk-weaker c.write_ending.result _ _
-    (λ _ e. lined_up before _ _ _ (line_of 1 (Opened b.table.setting.committee.n)) p.text (ending p.last.table c.args.fault) _ c.in_ok-write_opening.ensures played.text e
-    (ap (λ (m : Moment). ending m.table c.args.fault) played.last))
+    (λ _ e. lined_up before _ _ _ (line_of 1 (Opened b.table.setting.committee.n)) p.text (ending p.last.table rest.fault) _ c.in_ok-write_opening.ensures played.text e
+    (ap (λ (m : Moment). ending m.table rest.fault) played.last))
     c.write_ending.ensures
