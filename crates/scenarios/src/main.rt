@@ -1,7 +1,7 @@
 // Plays the examples that `index.txt` names: what the board prints of NAME.hex has to be what NAME.out holds.
 #![tactic(auto)]
 
-use anyhow::anyhow;
+use anyhow::{bail, ensure};
 use exam::play_schedule;
 use hexadecimal::bytes_of;
 use std::fs;
@@ -10,7 +10,7 @@ use std::fs;
 fn played(rt: &HostRuntime, name: &str) -> anyhow::Result<String> {
     let source = fs::read(rt, format!(in rt.alloc(); "{name}.hex")?)?;
     let Some(bytes) = bytes_of(rt.alloc(), source.as_slice())? else {
-        return Err(anyhow!(format!(in rt.alloc(); "{name}.hex is not hexadecimal")?));
+        bail!("{name}.hex is not hexadecimal");
     };
     let mut text = String::new(rt.alloc());
     play_schedule(rt.alloc(), bytes.as_slice(), &mut text)?;
@@ -19,21 +19,15 @@ fn played(rt: &HostRuntime, name: &str) -> anyhow::Result<String> {
 
 fn compare(rt: &HostRuntime, name: &str) -> anyhow::Result<()> {
     let expected = fs::read_to_string(rt, format!(in rt.alloc(); "{name}.out")?)?;
-    if played(rt, name)? != expected {
-        return Err(anyhow!(format!(in rt.alloc(); "{name} is not as expected")?));
-    }
+    ensure!(played(rt, name)? == expected, "{name} is not as expected");
     println!(rt; "{name} as expected")?;
     Ok(())
 }
 
-fn compare_all(rt: &HostRuntime) -> anyhow::Result<()> {
-    let index = fs::read_to_string(rt, "index.txt")?;
+fn main(rt: HostRuntime) -> anyhow::Result<()> {
+    let index = fs::read_to_string(&rt, "index.txt")?;
     for name in index.lines() {
-        compare(rt, name)?;
+        compare(&rt, name)?;
     }
     Ok(())
-}
-
-fn main(rt: HostRuntime) -> anyhow::Result<()> {
-    compare_all(&rt)
 }
