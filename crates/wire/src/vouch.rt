@@ -1,5 +1,5 @@
 // By which certificate a value is vouched for.
-#[derive(Clone, Copy)]
+#[derive(Clone, Copy, Debug, PartialEq, Eq)]
 pub enum Vouch {
     // No certificate of certification is named.
     Nothing = 0,
