@@ -11,6 +11,7 @@ mod line;
 pub mod lines;
 pub mod ranges;
 pub mod record;
+mod share;
 pub mod shares;
 pub mod vouch;
 pub mod vouches;
