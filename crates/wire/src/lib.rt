@@ -7,7 +7,6 @@ pub mod heeded;
 pub mod heeding;
 pub mod kind;
 pub mod kinds;
-mod line;
 pub mod lines;
 pub mod ranges;
 pub mod record;
