@@ -34,7 +34,8 @@ pub trait Register {
     fn has(&self, pair: Pair) -> bool
         ensures { result ≡ has_pair (pairs self.now) pair.process pair.statement };
 
-    // Puts the pair in; one that is held already is accepted without change.
+    // Puts the pair in; one that is held already is accepted without change. Each register writes it over its own `put`: a body
+    // here would need a public method that asks something of its caller.
     fn sign(&mut self, pair: Pair) -> Result<(), Unsigned>
         ensures { Signs ROOM (pairs self.old) pair (pairs self.new) result };
 
