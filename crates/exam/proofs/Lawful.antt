@@ -1,7 +1,7 @@
 -- A list of leaders is lawful just where a rota is made of it. Assumes nothing.
 use Rattle.std.proofs.Common.{◌≡◌, ℕ, suc, ◌%◌, true, ◌&&◌, ltb, leb, List, [], ◌∷◌, length, get_or, Some, None, vec_items, vec_len, Option, sym, refl, ap, ◌∙◌, subst, inl, inr, arith, ap₂, lt-ltb, le-leb, MatchOption}
 use Rattle.std.proofs.lemmas.Bool.{and_from, and_parts, leb-true, ltb-true, cases_Bool}
-use Rattle.counting.specs.Counts.{every}
+use Rattle.std.specs.List.{list_all}
 use Rattle.counting.proofs.Every.{every-at}
 use Rattle.committee.specs.Lists.{AllBelow, Listed}
 use Rattle.committee.specs.declared.list_rota.ListRota.{ListRota}
@@ -9,19 +9,18 @@ use Rattle.committee.specs.declared.rota.Rota.{Ghosts as RotaMeans}
 use Rattle.exam.specs.Schedules.{is_lawful}
 use Rattle.exam.specs.Rotas.{Lists}
 
-every-below : (n : ℕ) (xs : List ℕ) → AllBelow xs n → every (λ x. ltb x n) xs ≡ true
-unfolding every
+every-below : (n : ℕ) (xs : List ℕ) → AllBelow xs n → list_all (λ x. ltb x n) xs ≡ true
 every-below n [] h = refl
-every-below n (x ∷ xs) h = and_from (ltb x n) (every (λ y. ltb y n) xs) (lt-ltb x n (h 0 (omega arith))) (every-below n xs (λ k l. h (suc k) (omega arith)))
+every-below n (x ∷ xs) h = and_from (ltb x n) (list_all (λ y. ltb y n) xs) (lt-ltb x n (h 0 (omega arith))) (every-below n xs (λ k l. h (suc k) (omega arith)))
 
 lawful : (n : ℕ) (xs : List ℕ) → Listed xs n → is_lawful n xs ≡ true
 lawful n xs h =
-    and_from (leb 1 (length xs) && leb (length xs) 31) (every (λ x. ltb x n) xs)
+    and_from (leb 1 (length xs) && leb (length xs) 31) (list_all (λ x. ltb x n) xs)
     (and_from (leb 1 (length xs)) (leb (length xs) 31) (le-leb 1 (length xs) h.0) (le-leb (length xs) 31 h.1)) (every-below n xs h.2)
 
 listed : (n : ℕ) (xs : List ℕ) → is_lawful n xs ≡ true → Listed xs n
 listed n xs e =
-    let a = and_parts (leb 1 (length xs) && leb (length xs) 31) (every (λ x. ltb x n) xs) e in
+    let a = and_parts (leb 1 (length xs) && leb (length xs) 31) (list_all (λ x. ltb x n) xs) e in
     let b = and_parts (leb 1 (length xs)) (leb (length xs) 31) a.0 in
     (leb-true 1 (length xs) b.0, leb-true (length xs) 31 b.1, λ k l. ltb-true (get_or xs k 0) n (every-at (λ x. ltb x n) xs k 0 a.1 l))
 

@@ -28,20 +28,20 @@ module _ {R G : Type 0} (ρ : RotaMeans R) (γ : RegisterMeans G) (o : Opening) 
   cause-is : cause_of o (length (γ.pairs g)) (option_map ρ.size rota) ≡ cause_of o 0 (option_map ρ.size rota)
   cause-is = ap (λ (xs : List Pair). cause_of o (length xs) (option_map ρ.size rota)) empty
 
-  lines_are : (b : Board R) → OpensNamed ρ o rota (length (γ.pairs g)) (Ok b) → lines_on ρ γ b g rest ≡ lines (leads_by ρ rota) γ.room b.table (map placed_of rest.moves.now) rest.fault
+  lines_are : (b : Board R) → OpensNamed ρ o rota (length (γ.pairs g)) (Ok b) → lines_on ρ γ b g rest ≡ lines (leads_by ρ rota) γ.ROOM b.table (map placed_of rest.moves.now) rest.fault
   lines_are b is =
       let n = b.table.setting.committee.n in
       let os = map placed_of rest.moves.now in
       let L : Played → List ℕ = λ p. line_of 1 (Opened n) ++ (p.text ++ ending p.last.table rest.fault) in
       let M : List Pair → Moment = λ xs. moment b.table (replicate 1024 no_record) (signed_of xs) in
-      ap (λ (k : ℕ). L (playing (ρ.leader b.rota) k γ.room 2 (M (γ.pairs g)) os)) is.2
-      ∙ ap (λ (xs : List Pair). L (playing (ρ.leader b.rota) n γ.room 2 (M xs) os)) empty
-      ∙ ap (λ (x : Option R). L (playing (leads_by ρ x) n γ.room 2 (M []) os)) is.1.led
+      ap (λ (k : ℕ). L (playing (ρ.leader b.rota) k γ.ROOM 2 (M (γ.pairs g)) os)) is.2
+      ∙ ap (λ (xs : List Pair). L (playing (ρ.leader b.rota) n γ.ROOM 2 (M xs) os)) empty
+      ∙ ap (λ (x : Option R). L (playing (leads_by ρ x) n γ.ROOM 2 (M []) os)) is.1.led
 
   pub sat-down : (b : Board R) → OpensNamed ρ o rota (length (γ.pairs g)) (Ok b) → after ≡ before ++ lines_on ρ γ b g rest
-      → Behind (ShowsBy (leads_by ρ rota) γ.room o (option_map ρ.size rota) rest) before after
+      → Behind (ShowsBy (leads_by ρ rota) γ.ROOM o (option_map ρ.size rota) rest) before after
   sat-down b is written =
       let os = map placed_of rest.moves.now in
-      let text = lines (leads_by ρ rota) γ.room b.table os rest.fault in
-      let P : Option Refusal → Type 0 = λ x. Shows (leads_by ρ rota) γ.room o.f o.faulty o.delay o.overlap os rest.fault x text in
+      let text = lines (leads_by ρ rota) γ.ROOM b.table os rest.fault in
+      let P : Option Refusal → Type 0 = λ x. Shows (leads_by ρ rota) γ.ROOM o.f o.faulty o.delay o.overlap os rest.fault x text in
       (text, written ∙ ap (λ (x : List ℕ). before ++ x) (lines_are b is), subst P (sym (sym cause-is ∙ is.0)) (b.table, is.1.fresh, refl))

@@ -11,7 +11,7 @@
 use Rattle.std.specs.Prelude.{◌≡◌, ℕ, ◌%◌, Bool, cond, ◌&&◌, List, [], ◌∷◌, ◌++◌, length, take, replicate, Some, None, Option, ◌==◌, nat_le, nat_lt, slice_index}
 use Rattle.refusals.specs.declared.causes.Refusal.{Refusal}
 use Rattle.refusals.specs.declared.causes.Refusal.TheVariants.{FieldOutOfRange}
-use Rattle.counting.specs.Counts.{every}
+use Rattle.std.specs.List.{list_all}
 use Rattle.committee.specs.Membership.{size_for}
 use Rattle.committee.specs.Sets.{of_bits}
 use Rattle.protocol.specs.declared.board.Table.{Table}
@@ -27,7 +27,7 @@ use Rattle.player.specs.Outcomes.{line_of, process_lines}
 use Rattle.player.specs.Playing.{playing}
 
 abbrev pub is_lawful : ℕ → List ℕ → Bool
-is_lawful n xs = (nat_le 1 (length xs) && nat_le (length xs) 31) && every (λ x. nat_lt x n) xs
+is_lawful n xs = (nat_le 1 (length xs) && nat_le (length xs) 31) && list_all (λ x. nat_lt x n) xs
 
 abbrev pub rota_size : ℕ → Option (List ℕ) → Option ℕ
 rota_size n None = Some n

@@ -23,7 +23,7 @@ use Rattle.exam.specs.Schedules.{ending, judged, Shows}
 
 abbrev pub lines_on : {R G : Type 0} → RotaMeans R → RegisterMeans G → Board R → G → Rest → List ℕ
 lines_on ρ γ b g rest =
-    let p = playing (ρ.leader b.rota) (ρ.size b.rota) γ.room 2 (moment b.table (replicate 1024 no_record) (signed_of (γ.pairs g))) (map placed_of rest.moves.now) in
+    let p = playing (ρ.leader b.rota) (ρ.size b.rota) γ.ROOM 2 (moment b.table (replicate 1024 no_record) (signed_of (γ.pairs g))) (map placed_of rest.moves.now) in
     line_of 1 (Opened b.table.setting.committee.n) ++ (p.text ++ ending p.last.table rest.fault)
 
 abbrev pub cause_of : Opening → ℕ → Option ℕ → Option Refusal

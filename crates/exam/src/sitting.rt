@@ -116,7 +116,7 @@ impl Rest<'_> {
         text: &mut String,
     ) -> fmt::Result
         requires { G.Register.pairs register.old ≡ [] }
-        ensures { OnOk result (Behind (ShowsBy (leads_by R.Rota rota) G.Register.room opening.entry (option_map R.Rota.size rota) self.entry) (string_bytes text.old) (string_bytes text.new)) }
+        ensures { OnOk result (Behind (ShowsBy (leads_by R.Rota rota) G.Register.ROOM opening.entry (option_map R.Rota.size rota) self.entry) (string_bytes text.old) (string_bytes text.new)) }
     {
         match open_named(opening, rota, register) {
             Ok(board) => self.sit(board, register, text),

@@ -51,8 +51,8 @@ module _ {R G : Type 0} (ρ : RotaMeans R) (γ : RegisterMeans G) where
         let first = ap (λ (ps : List Placed). playing_of ρ γ d (2 + i) (map placed_of ps)) (drop_more ms i z l) in
         let number : 2 + (i + 1) ≡ 2 + i + 1 = omega arith in
         let goes = ap (λ (k : ℕ). playing_of ρ γ e k rest) number
-        ∙ ap (λ (x : R). playing (ρ.leader x) (ρ.size x) γ.room (2 + i + 1) (moment_of γ e) rest) m.same
-        ∙ ap (λ (x : Moment). playing (ρ.leader y) (ρ.size y) γ.room (2 + i + 1) x rest) m.after in
+        ∙ ap (λ (x : R). playing (ρ.leader x) (ρ.size x) γ.ROOM (2 + i + 1) (moment_of γ e) rest) m.same
+        ∙ ap (λ (x : Moment). playing (ρ.leader y) (ρ.size y) γ.ROOM (2 + i + 1) x rest) m.after in
         let line = ap (λ (x : Result Answer Refusal). line_of (2 + i) (outcome_of x)) m.answer in
         record {
           text = ap (λ (x : List ℕ). x ++ (left e ms (i + 1)).text) written

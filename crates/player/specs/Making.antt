@@ -12,7 +12,7 @@ use Rattle.player.specs.Playing.{Told, made, Played, playing}
 
 module _ {R G : Type 0} (ρ : RotaMeans R) (γ : RegisterMeans G) where
   abbrev pub made_of : Sitting R G → Order → Told
-  made_of a o = made (ρ.leader a.board.rota) (ρ.size a.board.rota) γ.room (moment_of γ a) o
+  made_of a o = made (ρ.leader a.board.rota) (ρ.size a.board.rota) γ.ROOM (moment_of γ a) o
 
   pub record MakesMove (a : Sitting R G) (o : Order) (b : Sitting R G) (r : Result Answer Refusal) : Type 0 where
     pub answer : r ≡ (made_of a o).answer
@@ -21,7 +21,7 @@ module _ {R G : Type 0} (ρ : RotaMeans R) (γ : RegisterMeans G) where
     pub onward : Onward ρ γ a b
 
   abbrev pub playing_of : Sitting R G → ℕ → List PlacedOrder → Played
-  playing_of a k os = playing (ρ.leader a.board.rota) (ρ.size a.board.rota) γ.room k (moment_of γ a) os
+  playing_of a k os = playing (ρ.leader a.board.rota) (ρ.size a.board.rota) γ.ROOM k (moment_of γ a) os
 
   -- what is left, and what is printed behind what was printed before
   pub record PlaysOut (a : Sitting R G) (os : List PlacedOrder) (b : Sitting R G) (before after : List ℕ) : Type 0 where

@@ -11,9 +11,9 @@ use std::fmt;
 fn write_process(number: usize, process: &Process, text: &mut String) -> fmt::Result
     ensures { OnOk result (string_bytes text.new ≡ string_bytes text.old ++ (if running process.now.certification.phase then process_line number process.now else [])) }
 {
-    let Phase::Running = process.certification.phase else {
+    if process.certification.phase != Phase::Running {
         return Ok(());
-    };
+    }
     let epoch = process.synchronizer.epoch;
     let view = process.core.view;
     let decided = process.core.decided;

@@ -36,7 +36,7 @@ impl Rest<'_> {
         text: &mut String,
     ) -> fmt::Result
         requires { G.Register.pairs register.old ≡ [] }
-        ensures { OnOk result (Behind (ShowsBy (leads_of (size_for opening.entry.f) (option_map (λ list. list.now) opening.entry.rota)) G.Register.room opening.entry (rota_size (size_for opening.entry.f) (option_map (λ list. list.now) opening.entry.rota)) self.entry) (string_bytes text.old) (string_bytes text.new)) }
+        ensures { OnOk result (Behind (ShowsBy (leads_of (size_for opening.entry.f) (option_map (λ list. list.now) opening.entry.rota)) G.Register.ROOM opening.entry (rota_size (size_for opening.entry.f) (option_map (λ list. list.now) opening.entry.rota)) self.entry) (string_bytes text.old) (string_bytes text.new)) }
     {
         let faulty = ProcessSet {
             bits: opening.faulty,

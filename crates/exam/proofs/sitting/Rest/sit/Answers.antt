@@ -14,7 +14,7 @@ returns g c =
     let b = c.args.board in
     let rest = c.args.self in
     let before = string_bytes c.args.text.now in
-    let p = playing (g.R.Rota.leader b.rota) (g.R.Rota.size b.rota) g.G.Register.room 2 (moment b.table (replicate 1024 no_record) (signed_of (g.G.Register.pairs c.args.register.now))) (map placed_of rest.moves.now) in
+    let p = playing (g.R.Rota.leader b.rota) (g.R.Rota.size b.rota) g.G.Register.ROOM 2 (moment b.table (replicate 1024 no_record) (signed_of (g.G.Register.pairs c.args.register.now))) (map placed_of rest.moves.now) in
     let played = c.in_ok-play.ensures.plays in
     IfOk-weaker c.write_ending.result _ _
     (λ _ e. lined_up before _ _ _ (line_of 1 (Opened b.table.setting.committee.n)) p.text (ending p.last.table rest.fault) _ c.in_ok-write_opening.ensures played.text e
