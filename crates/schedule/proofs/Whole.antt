@@ -18,9 +18,6 @@ content_long bs at whole =
     let left : length (drop (at + 3) bs) ≡ length bs - (at + 3) = length-drop (at + 3) bs in
     length-take-le (length_at bs at) (drop (at + 3) bs) (omega arith)
 
-pub known_is : (bs : List ℕ) (at : ℕ) (field : Field) → IsField bs at field → known_at bs at ≡ known field.tag (length field.content.now) field.byte
-known_is bs at field is = cond-true (whole_at bs at) _ _ is.whole ∙ sym (λ i. known (is.tag i) (is.long i) (is.byte i))
-
 pub split : {A : Type 0} (b : Bool) (x y z : A) → cond b x y ≡ z → ((b ≡ true) × (x ≡ z)) ⊎ ((b ≡ false) × (y ≡ z))
 split true x y z e = inl (refl, e)
 split false x y z e = inr (refl, e)
@@ -32,10 +29,3 @@ known-ok (Some k) n at tag e =
     (λ p. let q = p.1 in let same : k ≡ tag = cc in (ap (λ x. Some x) same, sym (ap (λ x. right_length x n) same) ∙ p.0))
     (λ p. let q = p.1 in let z : ◌≡◌ {A = ℕ} 0 1 = cc in absurd (omega arith))
     (split (right_length k n) (Ok k) (Err (move_fault WrongLength at)) (Ok tag) e)
-
-pub tagged : (bs : List ℕ) (at : ℕ) (field : Field) (tag : Tag) → IsField bs at field → known field.tag (length field.content.now) field.byte ≡ Ok tag → IsTagged bs at field tag
-tagged bs at field tag is e = record {
-  whole = is;
-  tagged = known_is bs at field is ∙ e;
-  long = (known-ok (tag_of field.tag) (length field.content.now) field.byte tag e).1;
-}
