@@ -1,12 +1,11 @@
 -- What follows of a field that the field layer handed out. Assumes nothing.
 use Rattle.std.proofs.Common.{◌≡◌, ℕ, ◌+◌, ◌-◌, ◌≤◌, Bool, true, false, cond, ◌⊎◌, List, length, drop, Some, None, Ok, Err, Option, sym, refl, ap, ◌∙◌, inl, inr, ⊎_elim, arith, length-drop}
 use Rattle.std.proofs.lemmas.List.{length-take-le}
-use Rattle.std.proofs.lemmas.Bool.{leb-true, cond-true}
+use Rattle.std.proofs.lemmas.Bool.{leb-true}
 use Rattle.refusals.specs.declared.causes.Refusal.TheVariants.{WrongLength}
-use Rattle.schedule.specs.declared.field.Field.{Field}
 use Rattle.schedule.specs.declared.tags.Tag.{Tag}
-use Rattle.schedule.specs.Tags.{right_length, tag_of}
-use Rattle.schedule.specs.Fields.{length_at, whole_at, behind_at, content_at, known_at, known, known_as, move_fault, IsField, IsTagged}
+use Rattle.schedule.specs.Tags.{right_length}
+use Rattle.schedule.specs.Fields.{length_at, whole_at, behind_at, content_at, known_as, move_fault}
 
 pub within : (bs : List ℕ) (at : ℕ) → whole_at bs at ≡ true → behind_at bs at ≤ length bs
 within bs at whole = leb-true (behind_at bs at) (length bs) whole

@@ -2,7 +2,6 @@
 --   HandsTagged   what is answered at a place: the field, with the schedule it was read in, or its first fault
 use Rattle.std.specs.Prelude.{◌≡◌, ℕ, List, Err, Result, MatchResult}
 use Rattle.moves.specs.declared.faults.Fault.{Fault}
-use Rattle.schedule.specs.declared.tags.Tag.{Tag}
 use Rattle.schedule.specs.declared.tagged.Tagged.{Tagged}
 use Rattle.schedule.specs.Fields.{known_at, IsTagged}
 
