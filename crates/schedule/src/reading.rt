@@ -32,6 +32,7 @@ impl<'a> From<AllocFailed<Placed<'a>>> for Stop {
 }
 
 // Appends every move that the reader has yet to read.
+#[tactic(auto, using(crate::proofs::Sofar::start, crate::proofs::Sofar::moreover))]
 fn read_on<'a>(mut reader: Reader<'a>, moves: &mut Vec<Placed<'a>>) -> Result<(), Stop>
     ensures { ReadsAll (reading_from reader.entry.bytes.now reader.entry.at) moves.old.items result moves.new.items }
 {
