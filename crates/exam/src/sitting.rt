@@ -2,7 +2,6 @@
 ghost use Rattle.std.specs.Prelude.{◌≡◌, [], ◌++◌, length, string_bytes, OnOk};
 ghost use Rattle.std.specs.Option.{option_map};
 ghost use Rattle.player.specs.Outcomes.{line_of};
-ghost use Rattle.listing.specs.Lines.{fault_line};
 ghost use Rattle.exam.specs.Schedules.{ending, Behind};
 ghost use Rattle.exam.specs.Sitting.{lines_on, leads_by, OpensNamed, ShowsBy};
 
@@ -11,6 +10,7 @@ pub mod schedules;
 
 use board::open;
 use committee::{ProcessSet, Rota};
+use listing::write_fault;
 use moves::{Fault, Opening, Placed};
 use player::{Outcome, play, write_processes};
 use protocol::{Board, Table};
@@ -47,15 +47,6 @@ fn write_opening(outcome: Outcome, text: &mut String) -> fmt::Result
     ensures { OnOk result (string_bytes text.new ≡ string_bytes text.old ++ line_of 1 outcome) }
 {
     writeln!(text, "{FIRST_MOVE} {outcome}")?;
-    Ok(())
-}
-
-fn write_fault(fault: Option<Fault>, text: &mut String) -> fmt::Result
-    ensures { OnOk result (string_bytes text.new ≡ string_bytes text.old ++ fault_line fault) }
-{
-    if let Some(fault) = fault {
-        writeln!(text, "{fault}")?;
-    }
     Ok(())
 }
 

@@ -9,12 +9,12 @@ ghost use Rattle.exam.specs.Schedules.{leads_of, rota_size, Behind, SitsFrom, Si
 ghost use Rattle.exam.specs.Sitting.{ShowsBy};
 
 use super::registers::RegisterKind;
-use super::{Rest, write_fault, write_opening};
+use super::{Rest, write_opening};
 use committee::{Committee, ListRota, ProcessSet, Rota, TurnRota};
+use listing::{read_to_fault, write_fault};
 use moves::{Fault, Move, Opening, Placed};
 use player::Outcome;
 use register::{Register, Roll, Tally};
-use schedule::{Stop, read};
 use std::alloc::{AllocError, Global};
 use std::fmt;
 
@@ -97,10 +97,6 @@ pub fn play_schedule(heap: Global, bytes: &[u8], text: &mut String) -> fmt::Resu
     ensures { OnOk result (Sat bytes.now (string_bytes text.old) (string_bytes text.new)) }
 {
     let mut moves = Vec::new(heap);
-    let fault = match read(bytes, &mut moves) {
-        Ok(()) => None,
-        Err(Stop::Fault(fault)) => Some(fault),
-        Err(Stop::NoMemory) => return Err(fmt::Error),
-    };
+    let fault = read_to_fault(bytes, &mut moves)?;
     play_read(heap, moves.as_slice(), fault, text)
 }
