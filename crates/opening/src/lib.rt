@@ -39,7 +39,8 @@ const BLANK: Process = Process {
     },
 };
 
-fn new_board<R: Rota + Drop, G: Register>(
+// A new board for a committee of 3f + 1 processes, δ and Δ, with its rota; an unlawful list of leaders comes as no rota.
+pub fn open<R: Rota + Drop, G: Register>(
     f: u8,
     faulty: ProcessSet,
     delay: u32,
@@ -47,7 +48,8 @@ fn new_board<R: Rota + Drop, G: Register>(
     rota: Option<R>,
     register: &G,
 ) -> Result<Board<R>, Refusal>
-    ensures { Opens R.Rota f faulty delay overlap rota (length (G.Register.pairs register.now)) result }
+    ensures exact { Opens R.Rota f faulty delay overlap rota (length (G.Register.pairs register.now)) result }
+    ensures begins { IfOk result (λ b. Begins R.Rota G.Register b register.now) }
 {
     let committee = Committee::new(f, faulty)?;
     let setting = Setting {
@@ -73,33 +75,4 @@ fn new_board<R: Rota + Drop, G: Register>(
         used: 0,
     };
     Ok(Board { table, rota })
-}
-
-fn new_run<R: Rota + Drop, G: Register>(
-    f: u8,
-    faulty: ProcessSet,
-    delay: u32,
-    overlap: u32,
-    rota: Option<R>,
-    register: &G,
-) -> Result<Board<R>, Refusal>
-    ensures exact { Opens R.Rota f faulty delay overlap rota (length (G.Register.pairs register.now)) result }
-    ensures begins { IfOk result (λ b. Begins R.Rota G.Register b register.now) }
-{
-    new_board(f, faulty, delay, overlap, rota, register)
-}
-
-// A new board for a committee of 3f + 1 processes, δ and Δ, with its rota; an unlawful list of leaders comes as no rota.
-pub fn open<R: Rota + Drop, G: Register>(
-    f: u8,
-    faulty: ProcessSet,
-    delay: u32,
-    overlap: u32,
-    rota: Option<R>,
-    register: &G,
-) -> Result<Board<R>, Refusal>
-    ensures exact { Opens R.Rota f faulty delay overlap rota (length (G.Register.pairs register.now)) result }
-    ensures begins { IfOk result (λ b. Begins R.Rota G.Register b register.now) }
-{
-    new_run(f, faulty, delay, overlap, rota, register)
 }
