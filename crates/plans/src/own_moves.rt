@@ -2,7 +2,6 @@
 ghost use Rattle.std.specs.Prelude.{◌≡◌, ◌+◌, ◌≤◌};
 ghost use Rattle.protocol.specs.Moments.{moment, signed_of};
 ghost use Rattle.protocol.specs.Plans.{tick_plan, propose_plan, is_due, deadline_of, expire_plan, inject_plan};
-ghost use Rattle.protocol.specs.Drafts.{draft_as};
 ghost use Rattle.protocol.specs.Rulings.{view_expiry_of, spread_expiry_of, expiry_of};
 
 use admission::{find_room, seat_at};
@@ -138,7 +137,7 @@ pub fn plan_inject<R: Rota, G: Register>(
     process: u8,
     draft: Draft,
 ) -> Result<Step, Refusal>
-    ensures { result ≡ inject_plan (R.Rota.size board.now.rota) G.Register.room (moment board.now.table wire.now (signed_of (G.Register.pairs register.now))) process (draft_as draft) }
+    ensures { result ≡ inject_plan (R.Rota.size board.now.rota) G.Register.room (moment board.now.table wire.now (signed_of (G.Register.pairs register.now))) process draft }
 {
     let seat = seat_at(board, wire, process)?;
     if !seat.setting.committee.faulty.contains(process) {

@@ -10,17 +10,17 @@ use Rattle.wire.specs.Kinds.{kind_of, vouch_of}
 use Rattle.wire.specs.Ranges.{in_range}
 use Rattle.protocol.specs.declared.process.Phase.{Phase}
 use Rattle.protocol.specs.declared.process.Phase.TheVariants.{Idle, Certifying, Running}
+use Rattle.protocol.specs.declared.draft.Draft.{Draft}
 use Rattle.protocol.specs.declared.process.Process.{Process}
 use Rattle.protocol.specs.declared.step.Step.{Step}
 use Rattle.protocol.specs.Processes.{idle, running}
 use Rattle.protocol.specs.Ranges.{between, last_tick, process_fits}
-use Rattle.committee.specs.Sets.{of_bits}
 use Rattle.protocol.specs.Sending.{sent, to_all, view_change}
 use Rattle.protocol.specs.Steps.{moves_on, moves}
 use Rattle.protocol.specs.Certifying.{proposes}
 use Rattle.protocol.specs.Synchronizing.{last_place, view_here, entered, timer_off, spread_off, on_spread_expiry}
 use Rattle.protocol.specs.Moments.{Moment, played}
-use Rattle.protocol.specs.Plans.{seat, used_of, is_faulty, later, tick_plan, propose_plan, is_due, deadline_of, at_end, view_expiry, spread_expiry, expire_plan, Draft, drafted, injecting, inject_plan}
+use Rattle.protocol.specs.Plans.{seat, used_of, is_faulty, later, tick_plan, propose_plan, is_due, deadline_of, at_end, view_expiry, spread_expiry, expire_plan, drafted, injecting, inject_plan}
 use Rattle.agreement.specs.Wires.{Wire, Correct}
 use Rattle.agreement.proofs.Records.{formed}
 use Rattle.safety.specs.Ties.{Tied, Capped}
@@ -171,7 +171,7 @@ inject_kept leader n room m p d k =
     go never member (Some j) (Some w) =
         let P : Result Step Refusal → Type 0 = λ y. Kept leader (played y p m) in
         let c = committee_of m in
-        let r = sent (of_bits d.to) p j d.number d.value d.back w in
+        let r = sent d.to p j d.number d.value d.back w in
         cond_both (not (in_range c.n r)) _ _ P (λ _. k)
         (λ e. roomy-kept P room m _ (λ _. k)
         (λ free. carry leader m p (moves (seat m.table p) r) k member
