@@ -106,17 +106,20 @@ deadline_of timer q = cond (timer == 1) q.synchronizer.due q.synchronizer.spread
 abbrev pub at_end : Setting → Process → Bool
 at_end s q = nat_le (last_place s) q.synchronizer.place && q.synchronizer.epoch == 65535
 
-abbrev pub view_expiry : (ℕ → ℕ) → Moment → ℕ → Result Step Refusal
-view_expiry leads m p =
-    let s = m.table.setting in
-    let q = seat m.table p in
+abbrev pub view_expiry : (ℕ → ℕ) → Table → ℕ → Result Step Refusal
+view_expiry leads t p =
+    let s = t.setting in
+    let q = seat t p in
     cond (at_end s q) (Err LastEpoch) (Ok (on_view_expiry s q p (leads (view_here s q (q.synchronizer.place + 1)))))
 
-abbrev pub spread_expiry : (ℕ → ℕ) → Moment → ℕ → Result Step Refusal
-spread_expiry leads m p =
-    let s = m.table.setting in
-    let q = seat m.table p in
-    Ok (on_spread_expiry s q p (leads (view_here s q 1)))
+abbrev pub spread_expiry : (ℕ → ℕ) → Table → ℕ → Step
+spread_expiry leads t p =
+    let s = t.setting in
+    let q = seat t p in
+    on_spread_expiry s q p (leads (view_here s q 1))
+
+abbrev pub expiry : (ℕ → ℕ) → Table → ℕ → ℕ → Result Step Refusal
+expiry leads t p timer = cond (timer == 1) (view_expiry leads t p) (Ok (spread_expiry leads t p))
 
 abbrev pub expire_plan : (ℕ → ℕ) → ℕ → ℕ → Moment → ℕ → ℕ → Result Step Refusal
 expire_plan leads n room m p timer =
@@ -125,7 +128,7 @@ expire_plan leads n room m p timer =
     (cond (is_faulty m p) (Err WrongSide)
     (cond (not (between 1 timer 2)) (Err FieldOutOfRange)
     (cond (not (is_due (deadline_of timer q) q.synchronizer.clock)) (Err Untimely)
-    (roomy room m (cond (timer == 1) (view_expiry leads m p) (spread_expiry leads m p))))))
+    (roomy room m (expiry leads m.table p timer)))))
 
 -- ---- deliver
 
@@ -201,17 +204,21 @@ stale q r = (nat_le (kind_number r.kind) 3 && running q.certification.phase) || 
 abbrev pub undeliverable : Moment → ℕ → ℕ → Bool
 undeliverable m p i = let r = record_at m.wire i in nat_le m.table.used i || (not (contains r.to p) || contains r.got p)
 
--- what stands in the way of a delivery, and else the step z
-abbrev pub admitted : ℕ → ℕ → Moment → ℕ → ℕ → Step → Result Step Refusal
-admitted n room m p i z =
+-- what a correct process makes of the record at place i: the first cause that stands in the way, and else the step z
+abbrev pub taken : ℕ → Moment → ℕ → ℕ → Step → Result Step Refusal
+taken room m p i z =
     let q = seat m.table p in
     let r = record_at m.wire i in
+    cond (untimely r.kind q.certification.phase) (Err Untimely)
+    (cond (ahead q r) (Err ViewAhead)
+    (roomy room m (cond (stale q r) (Ok (drops q)) (Ok z))))
+
+-- the same of any process; a faulty one drops what is delivered to it
+abbrev pub admitted : ℕ → ℕ → Moment → ℕ → ℕ → Step → Result Step Refusal
+admitted n room m p i z =
     known n m p
     (cond (undeliverable m p i) (Err NoSuchRecord)
-    (cond (is_faulty m p) (Ok (drops q))
-    (cond (untimely r.kind q.certification.phase) (Err Untimely)
-    (cond (ahead q r) (Err ViewAhead)
-    (roomy room m (cond (stale q r) (Ok (drops q)) (Ok z)))))))
+    (cond (is_faulty m p) (Ok (drops (seat m.table p))) (taken room m p i z)))
 
 abbrev pub deliver_plan : (ℕ → ℕ) → ℕ → ℕ → Moment → ℕ → ℕ → Result Step Refusal
 deliver_plan leads n room m p i = admitted n room m p i (ruled leads m p i (record_at m.wire i))

@@ -94,7 +94,7 @@ module _ (leader : ℕ → ℕ) (m : Moment) (p : ℕ) (k : Kept leader m) (memb
   busy : (ws : Wire) (u : Process) → running u.certification.phase ≡ true → Correct c p → Capped c ws p u
   busy ws u h _ rests = absurd (both_ways _ rests h)
 
-  pub view_expiry_kept : 1 ≤ q.synchronizer.due → Kept leader (played (view_expiry leader m p) p m)
+  pub view_expiry_kept : 1 ≤ q.synchronizer.due → Kept leader (played (view_expiry leader m.table p) p m)
   view_expiry_kept on =
       let P : Result Step Refusal → Type 0 = λ y. Kept leader (played y p m) in
       let S : Step → Type 0 = λ z. Kept leader (played (Ok z) p m) in
@@ -120,7 +120,7 @@ module _ (leader : ℕ → ℕ) (m : Moment) (p : ℕ) (k : Kept leader m) (memb
       )
       (busy (used_of m) (timer_off q) going) free))
 
-  pub spread_expiry_kept : 1 ≤ q.synchronizer.spread → Kept leader (played (spread_expiry leader m p) p m)
+  pub spread_expiry_kept : 1 ≤ q.synchronizer.spread → Kept leader (played (Ok (spread_expiry leader m.table p)) p m)
   spread_expiry_kept on =
       let s = m.table.setting in
       let going = runs q.synchronizer.spread on (λ e. (waits_stand c.f q fits e).spread) in
