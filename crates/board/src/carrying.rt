@@ -1,8 +1,8 @@
 // Carrying out a step, for every move: nothing else writes to a board, a wire or a register.
-ghost use Rattle.std.specs.Prelude.{◌≡◌, ◌<◌, ◌≤◌, true, length, is_some, ◌≢◌};
+ghost use Rattle.std.specs.Prelude.{◌≡◌, ◌<◌, ◌≤◌, true, length, is_some, Ok, ◌≢◌};
 ghost use Rattle.wire.specs.Shares.{share_of};
 ghost use Rattle.protocol.specs.Moments.{moment, signed_of, with_share, appended, done, marked};
-ghost use Rattle.protocol.specs.Ready.{Ready};
+ghost use Rattle.protocol.specs.Ready.{Doable};
 
 pub mod moves;
 
@@ -45,8 +45,7 @@ fn carry_out<G: Register>(
     process: u8,
     step: &Step,
 )
-    requires known { process < 31 }
-    requires ready { Ready G.Register.room process (moment table.old wire.old (signed_of (G.Register.pairs register.old))) step.now.first step.now.second }
+    requires { Doable G.Register.room process (moment table.old wire.old (signed_of (G.Register.pairs register.old))) (Ok step.now) }
     ensures { moment table.new wire.new (signed_of (G.Register.pairs register.new)) ≡ done process step.now (moment table.old wire.old (signed_of (G.Register.pairs register.old))) }
 {
     table.processes[usize::from(process)] = step.process;

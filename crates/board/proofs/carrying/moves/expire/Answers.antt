@@ -1,29 +1,19 @@
-use Rattle.std.proofs.Common.{sym, refl, subst}
-use Rattle.std.proofs.lemmas.Result.{err_from_is_err_and}
-use Rattle.protocol.specs.Ready.{Doable}
+use Rattle.std.proofs.Common.{refl}
 use Rattle.protocol.specs.Runs.{sitting, moment_of}
 use Rattle.protocol.specs.Runs.Move.{expires}
 use Rattle.safety.proofs.Readying.{expire_doable}
-use Rattle.safety.proofs.Going.{played-refused, played-done, goes_on}
-use Rattle.board.proofs.carrying.moves.expiring.Goals as goal
+use Rattle.board.proofs.Moving.{step_doable, stays, carried}
+use Rattle.board.proofs.carrying.moves.expire.Goals as goal
 
-pub returns-in_err-step : goal.returns-in_err-step
-returns-in_err-step g c =
-    let p = err_from_is_err_and c.from_residual.result c.from_residual.ensures.1 in
-    let a = sitting c.args.board.now c.args.wire.now c.args.register.now in
-    let x = played-refused g.G.Register a _ c.args.process _ c.in_err-step.ensures in
-    rw (p.1, p.2) (record { exact = x; keeps = goes_on g.R.Rota g.G.Register g.met.R.Rota.inside a a (expires c.args.process c.args.timer _ x) })
+pub returns-in_err-step-clause-keeps : goal.returns-in_err-step-clause-keeps
+returns-in_err-step-clause-keeps g c = stays g.R.Rota g.G.Register g.met.R.Rota.inside (sitting c.args.board.now c.args.wire.now c.args.register.now)
 
 pub carry_out-requires : goal.carry_out-requires
 carry_out-requires g c =
-    let a = sitting c.args.board.now c.args.wire.now c.args.register.now in
-    let m = moment_of g.G.Register a in
-    let d = subst (Doable g.G.Register.room c.args.process m) (sym c.in_ok-step.ensures)
-    (expire_doable (g.R.Rota.size c.args.board.now.rota) g.G.Register.room m c.args.process (g.R.Rota.leader c.args.board.now.rota) c.args.timer) in
-    record { known = d.0; ready = d.1 }
+    let m = moment_of g.G.Register (sitting c.args.board.now c.args.wire.now c.args.register.now) in
+    step_doable g.G.Register.room _ m _ c.in_ok-step.step c.in_ok-step.ensures (expire_doable _ _ m _ (g.R.Rota.leader c.args.board.now.rota) c.args.timer)
 
-pub returns : goal.returns
-returns g c =
+pub returns-clause-keeps : goal.returns-clause-keeps
+returns-clause-keeps g c =
     let a = sitting c.args.board.now c.args.wire.now c.args.register.now in
-    let x = played-done g.G.Register a _ c.args.process c.in_ok-step.step _ c.in_ok-step.ensures c.carry_out.ensures refl in
-    record { exact = x; keeps = goes_on g.R.Rota g.G.Register g.met.R.Rota.inside a _ (expires c.args.process c.args.timer _ x) }
+    carried g.R.Rota g.G.Register g.met.R.Rota.inside a _ _ c.in_ok-step.step _ c.in_ok-step.ensures refl c.carry_out.ensures (expires _ c.args.timer _)
