@@ -19,13 +19,8 @@ impl ListRota {
     pub fn new(n: u8, entries: Vec<u8>) -> Option<ListRota>
         ensures { MatchOption result (Listed entries.items n → ⊥) (λ c. Listed entries.items n × (c.n ≡ n) × (c.entries.items ≡ entries.items)) }
     {
-        if entries.len() < 1 || entries.len() > 31 {
+        if entries.is_empty() || entries.len() > 31 || entries.iter().any(|entry| *entry >= n) {
             return None;
-        }
-        for e in entries.as_slice() {
-            if *e >= n {
-                return None;
-            }
         }
         Some(ListRota { n, entries })
     }

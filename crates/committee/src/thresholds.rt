@@ -8,21 +8,21 @@ use crate::sets::ProcessSet;
 
 impl Committee {
     // Votes, view changes and completed epochs take a quorum.
+    #[tactic(auto, using(crate::proofs::Quorums::quorums_meet, crate::proofs::Quorums::many_correct))]
     pub fn quorum(&self) -> u8
         ensures value { result ≡ quorum_of self.now }
         ensures meet { QuorumsMeet self.now }
         ensures correct { ManyCorrect self.now }
     {
-        self.quorums_meet();
         2 * self.f + 1
     }
 
     // So many that one of them is correct.
+    #[tactic(auto, using(crate::proofs::Quorums::one_correct))]
     pub fn weak_quorum(&self) -> u8
         ensures value { result ≡ weak_quorum_of self.now }
         ensures correct { OneCorrect self.now }
     {
-        self.weak_quorum_correct();
         1 + self.f
     }
 
@@ -41,15 +41,4 @@ impl Committee {
             bits: (1 << self.n) - 1,
         }
     }
-
-    // A lemma as a call: it computes nothing, and its contract is the fact.
-    fn quorums_meet(&self)
-        ensures meet { QuorumsMeet self.now }
-        ensures correct { ManyCorrect self.now }
-    {}
-
-    // Likewise.
-    fn weak_quorum_correct(&self)
-        ensures { OneCorrect self.now }
-    {}
 }

@@ -26,16 +26,11 @@ impl Committee {
     }
 
     // The view at a place of an epoch.
+    #[tactic(auto, using(crate::proofs::Places::placed))]
     pub fn view_at(&self, epoch: u16, place: u8) -> u32
         ensures value { result ≡ view_of self.now.f epoch place }
         ensures undone { Placed self.now.f epoch place result }
     {
-        self.place_found(epoch, place);
         u32::from(epoch.saturating_sub(1)) * (u32::from(self.f) + 1) + u32::from(place)
     }
-
-    // A lemma as a call: the view of an epoch and a place has that epoch and place.
-    fn place_found(&self, epoch: u16, place: u8)
-        ensures { Placed self.now.f epoch place (view_of self.now.f epoch place) }
-    {}
 }

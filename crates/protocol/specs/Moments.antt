@@ -23,6 +23,7 @@ use Rattle.protocol.specs.declared.process.Process.{Process}
 use Rattle.protocol.specs.declared.board.Table.{Table}
 use Rattle.protocol.specs.declared.step.Step.{Step}
 use Rattle.protocol.specs.declared.step.Answer.{Answer}
+use Rattle.protocol.specs.Steps.{is_heed}
 use Rattle.protocol.specs.Sending.{sent}
 
 pub record Signed : Type 0 where
@@ -96,7 +97,7 @@ played (Ok z) p m = done p z m
 
 abbrev pub received : Result Step Refusal → ℕ → ℕ → Moment → Moment
 received (Err e) p i m = m
-received (Ok z) p i m = done p z (moment m.table (marked p i z.heed m.wire) m.signed)
+received (Ok z) p i m = done p z (moment m.table (marked p i (is_heed z.answer) m.wire) m.signed)
 
 abbrev pub told : Result Step Refusal → Result Answer Refusal
 told (Err e) = Err e

@@ -11,7 +11,7 @@
 --   table_fits t        the setting, and each process below n
 --   wire_fits t w       as many records as are used are there, and each of them is in range
 use Rattle.std.specs.Prelude.{ℕ, ◌+◌, ◌^◌, Bool, cond, not, ◌&&◌, ◌||◌, List, length, take, ◌==◌, nat_le, nat_lt}
-use Rattle.counting.specs.Counts.{every}
+use Rattle.std.specs.List.{list_all}
 use Rattle.committee.specs.Views.{is_view, last_view}
 use Rattle.wire.specs.declared.record.Record.{Record}
 use Rattle.wire.specs.Kinds.{vouch_number}
@@ -59,7 +59,7 @@ abbrev pub setting_fits : Setting → Bool
 setting_fits s = between 1 s.delay 1000000 && between 1 s.overlap 1000000
 
 abbrev pub table_fits : Table → Bool
-table_fits t = setting_fits t.setting && every (process_fits t.setting.committee.f) (take t.setting.committee.n t.processes)
+table_fits t = setting_fits t.setting && list_all (process_fits t.setting.committee.f) (take t.setting.committee.n t.processes)
 
 abbrev pub wire_fits : Table → List Record → Bool
-wire_fits t w = nat_le t.used (length w) && every (in_range t.setting.committee.n) (take t.used w)
+wire_fits t w = nat_le t.used (length w) && list_all (in_range t.setting.committee.n) (take t.used w)

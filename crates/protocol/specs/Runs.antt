@@ -43,20 +43,20 @@ module _ {R G : Type 0} (ρ : RotaMeans R) (γ : RegisterMeans G) where
   Ticks a p k b r = let plan = tick_plan (ρ.size a.board.rota) (moment_of γ a) p k in Makes γ plan (played plan p (moment_of γ a)) a b r
 
   abbrev pub Proposes : Sitting R G → ℕ → ℕ → Sitting R G → Result Answer Refusal → Type 0
-  Proposes a p x b r = let plan = propose_plan (ρ.size a.board.rota) γ.room (moment_of γ a) p x in Makes γ plan (played plan p (moment_of γ a)) a b r
+  Proposes a p x b r = let plan = propose_plan (ρ.size a.board.rota) γ.ROOM (moment_of γ a) p x in Makes γ plan (played plan p (moment_of γ a)) a b r
 
   abbrev pub Expires : Sitting R G → ℕ → ℕ → Sitting R G → Result Answer Refusal → Type 0
   Expires a p t b r =
-      let plan = expire_plan (ρ.leader a.board.rota) (ρ.size a.board.rota) γ.room (moment_of γ a) p t in
+      let plan = expire_plan (ρ.leader a.board.rota) (ρ.size a.board.rota) γ.ROOM (moment_of γ a) p t in
       Makes γ plan (played plan p (moment_of γ a)) a b r
 
   abbrev pub Delivers : Sitting R G → ℕ → ℕ → Sitting R G → Result Answer Refusal → Type 0
   Delivers a i p b r =
-      let plan = deliver_plan (ρ.leader a.board.rota) (ρ.size a.board.rota) γ.room (moment_of γ a) p i in
+      let plan = deliver_plan (ρ.leader a.board.rota) (ρ.size a.board.rota) γ.ROOM (moment_of γ a) p i in
       Makes γ plan (received plan p i (moment_of γ a)) a b r
 
   abbrev pub Injects : Sitting R G → ℕ → Draft → Sitting R G → Result Answer Refusal → Type 0
-  Injects a p d b r = let plan = inject_plan (ρ.size a.board.rota) γ.room (moment_of γ a) p d in Makes γ plan (played plan p (moment_of γ a)) a b r
+  Injects a p d b r = let plan = inject_plan (ρ.size a.board.rota) γ.ROOM (moment_of γ a) p d in Makes γ plan (played plan p (moment_of γ a)) a b r
 
   pub record New (a : Sitting R G) : Type 0 where
     pub still : a.board.table.processes ≡ replicate 31 blank_process

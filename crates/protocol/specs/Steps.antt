@@ -7,32 +7,41 @@
 --   acts q          one that is heeded and changes the process
 --   acts_with q r   one that appends a record too
 --   acts_twice      one that appends two
-use Rattle.std.specs.Prelude.{true, false, Some, None}
+--   is_heed a       such a delivery is heeded
+use Rattle.std.specs.Prelude.{Bool, true, false, Some, None}
 use Rattle.wire.specs.declared.record.Record.{Record}
 use Rattle.protocol.specs.declared.process.Process.{Process}
 use Rattle.protocol.specs.declared.step.Step.{Step}
+use Rattle.protocol.specs.declared.step.Answer.{Answer}
 use Rattle.protocol.specs.declared.step.Answer.TheVariants.{Moved, Dropped, Heeded, Acted}
 
+-- whether the delivered record is heeded
+abbrev pub is_heed : Answer → Bool
+is_heed (Moved n) = false
+is_heed Dropped = false
+is_heed Heeded = true
+is_heed (Acted n) = true
+
 abbrev pub moves_on : Process → Step
-moves_on q = record { process = q; heed = false; answer = Moved 0; first = None; second = None }
+moves_on q = record { process = q; answer = Moved 0; first = None; second = None }
 
 abbrev pub moves : Process → Record → Step
-moves q r = record { process = q; heed = false; answer = Moved 1; first = Some r; second = None }
+moves q r = record { process = q; answer = Moved 1; first = Some r; second = None }
 
 abbrev pub moves_twice : Process → Record → Record → Step
-moves_twice q r s = record { process = q; heed = false; answer = Moved 2; first = Some r; second = Some s }
+moves_twice q r s = record { process = q; answer = Moved 2; first = Some r; second = Some s }
 
 abbrev pub drops : Process → Step
-drops q = record { process = q; heed = false; answer = Dropped; first = None; second = None }
+drops q = record { process = q; answer = Dropped; first = None; second = None }
 
 abbrev pub heeds : Process → Step
-heeds q = record { process = q; heed = true; answer = Heeded; first = None; second = None }
+heeds q = record { process = q; answer = Heeded; first = None; second = None }
 
 abbrev pub acts : Process → Step
-acts q = record { process = q; heed = true; answer = Acted 0; first = None; second = None }
+acts q = record { process = q; answer = Acted 0; first = None; second = None }
 
 abbrev pub acts_with : Process → Record → Step
-acts_with q r = record { process = q; heed = true; answer = Acted 1; first = Some r; second = None }
+acts_with q r = record { process = q; answer = Acted 1; first = Some r; second = None }
 
 abbrev pub acts_twice : Process → Record → Record → Step
-acts_twice q r s = record { process = q; heed = true; answer = Acted 2; first = Some r; second = Some s }
+acts_twice q r s = record { process = q; answer = Acted 2; first = Some r; second = Some s }

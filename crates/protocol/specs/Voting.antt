@@ -3,6 +3,8 @@
 --   on_view_change            whether this process leads and the certificate holds, from so many senders, with the best backing b among them
 --   unlocked k r              the lock lets the process vote for the proposal
 --   on_prepare, on_precommit, on_commit   l is the leader of the view
+--   step_of s, vote_of s      how far a voter is behind a stage, and the kind of its vote there
+--   on_quorum s               the rule of the stage
 --   on_decide                 whether its certificate holds
 --   phase_of b, next_kind b   the number of a phase, and the kind that a quorum of its votes leads to
 --   on_vote                   a vote of the phase b
@@ -18,6 +20,8 @@ use Rattle.protocol.specs.declared.process.Process.{Process}
 use Rattle.protocol.specs.declared.board.Setting.{Setting}
 use Rattle.protocol.specs.declared.ballot.Ballot.{Ballot}
 use Rattle.protocol.specs.declared.ballot.Ballot.TheVariants as ballot
+use Rattle.protocol.specs.declared.stage.Stage.{Stage}
+use Rattle.protocol.specs.declared.stage.Stage.TheVariants as stage
 use Rattle.protocol.specs.declared.step.Step.{Step}
 use Rattle.protocol.specs.Processes.{mark, core_of, with_core}
 use Rattle.protocol.specs.Sending.{to_all, to_one, proposal}
@@ -72,6 +76,18 @@ on_commit q p r holds l =
     cond (r.sender == l && (nat_lt q.core.step 3 && holds))
     (acts_with (with_core (with_locked (mark r.number r.value) q.core) q) (to_one l p CommitVote r.number r.value))
     (drops q)
+
+abbrev pub step_of : Stage → ℕ
+step_of stage.Precommit = 2
+step_of stage.Commit = 3
+
+abbrev pub vote_of : Stage → Kind
+vote_of stage.Precommit = PrecommitVote
+vote_of stage.Commit = CommitVote
+
+abbrev pub on_quorum : Stage → Process → ℕ → Record → Bool → ℕ → Step
+on_quorum stage.Precommit = on_precommit
+on_quorum stage.Commit = on_commit
 
 abbrev pub on_decide : Process → Record → Bool → Step
 on_decide q r holds = cond (q.core.decided == 0 && holds) (acts (with_core (with_decided r.value q.core) q)) (drops q)

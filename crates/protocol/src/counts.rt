@@ -2,6 +2,7 @@
 ghost use Rattle.std.specs.Prelude.{◌≡◌, ℕ, Bool, ◌||◌, ◌==◌};
 ghost use Rattle.counting.specs.Counts.{count_to};
 ghost use Rattle.register.specs.Distinct.{Gathered};
+ghost use Rattle.wire.specs.Heeding.{is_heeded};
 ghost use Rattle.protocol.specs.Plans.{from_senders, better, best_backing};
 
 use crate::process::Mark;
@@ -31,7 +32,7 @@ pub fn from_senders(records: &[Record], query: &Heeded, sender: u8) -> u32
 fn better(best: Mark, counts: bool, rival: &Record) -> Mark
     ensures { result ≡ better counts rival.now best }
 {
-    if counts & (best.view < rival.back) {
+    if counts && best.view < rival.back {
         Mark {
             view: rival.back,
             value: rival.value,
@@ -41,13 +42,20 @@ fn better(best: Mark, counts: bool, rival: &Record) -> Mark
     }
 }
 
+// Whether the record at place i is asked for, or is the one at this place.
+fn is_chosen(record: &Record, query: &Heeded, i: usize, index: usize) -> bool
+    ensures { result ≡ (is_heeded query.now record.now || i == index) }
+{
+    record.counts(query) || i == index
+}
+
 // The first largest backing among the records that are asked for, with the one at this place.
 pub fn best_backing(records: &[Record], query: &Heeded, index: usize) -> Mark
     ensures { result ≡ best_backing query.now index records.now }
 {
     let mut best = Mark { view: 0, value: 0 };
     for (i, record) in records.iter().enumerate() {
-        best = better(best, record.counts(query) | (i == index), record);
+        best = better(best, is_chosen(record, query, i, index), record);
     }
     best
 }

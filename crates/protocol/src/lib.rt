@@ -9,6 +9,7 @@ pub mod process;
 pub mod ranges;
 pub mod rules;
 pub mod seat;
+pub mod stage;
 pub mod step;
 
 pub use ballot::Ballot;
@@ -17,4 +18,5 @@ pub use counts::{best_backing, from_senders};
 pub use draft::Draft;
 pub use process::Process;
 pub use seat::{Delivery, Seat};
+pub use stage::Stage;
 pub use step::{Answer, Step};

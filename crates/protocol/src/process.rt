@@ -1,15 +1,16 @@
 // What one process keeps, grouped by the part of SQuad that it serves.
 use wire::Vouch;
 
-#[derive(Clone, Copy)]
+#[derive(Clone, Copy, Debug, Default, PartialEq, Eq)]
 pub enum Phase {
+    #[default]
     Idle,
     Certifying,
     Running,
 }
 
 // Certification: the value that the process proposed, and the one that it may offer as a leader.
-#[derive(Clone, Copy)]
+#[derive(Clone, Copy, Debug, Default, PartialEq, Eq)]
 pub struct Certification {
     pub phase: Phase,
     pub proposal: u16,
@@ -21,7 +22,7 @@ pub struct Certification {
 }
 
 // The synchronizer: where the process stands among the epochs, its clock, and when its two timers are due; 0 is unarmed.
-#[derive(Clone, Copy)]
+#[derive(Clone, Copy, Debug, Default, PartialEq, Eq)]
 pub struct Synchronizer {
     pub epoch: u32,
     pub place: u8,
@@ -33,14 +34,14 @@ pub struct Synchronizer {
 }
 
 // A value with the view in which a quorum voted for it; both 0 where there is none.
-#[derive(Clone, Copy)]
+#[derive(Clone, Copy, Debug, Default, PartialEq, Eq)]
 pub struct Mark {
     pub view: u32,
     pub value: u16,
 }
 
 // The view core: the view that was entered last, and how far the process is in it as a voter and as a leader.
-#[derive(Clone, Copy)]
+#[derive(Clone, Copy, Debug, Default, PartialEq, Eq)]
 pub struct ViewCore {
     pub view: u32,
     pub prepared: Mark,
@@ -52,7 +53,7 @@ pub struct ViewCore {
     pub decided: u16,
 }
 
-#[derive(Clone, Copy)]
+#[derive(Clone, Copy, Debug, Default, PartialEq, Eq)]
 pub struct Process {
     pub certification: Certification,
     pub synchronizer: Synchronizer,

@@ -4,6 +4,7 @@ ghost use Rattle.protocol.specs.Processes.{with_core};
 ghost use Rattle.protocol.specs.Sending.{sent, only, to_all, to_one, view_change};
 ghost use Rattle.protocol.specs.Steps.{moves_on, moves, moves_twice, drops, heeds, acts, acts_with, acts_twice};
 ghost use Rattle.std.specs.Prelude.{◌≡◌};
+ghost use Rattle.wire.specs.declared.vouch.Vouch.TheVariants.{Nothing};
 
 pub mod certification;
 pub mod injection;
@@ -23,7 +24,6 @@ impl Step {
     {
         Step {
             process,
-            heed: false,
             answer: Answer::Moved(0),
             first: None,
             second: None,
@@ -35,11 +35,9 @@ impl Step {
         ensures { result ≡ moves process first }
     {
         Step {
-            process,
-            heed: false,
             answer: Answer::Moved(1),
             first: Some(first),
-            second: None,
+            ..Step::moves_on(process)
         }
     }
 
@@ -47,11 +45,9 @@ impl Step {
         ensures { result ≡ moves_twice process first second }
     {
         Step {
-            process,
-            heed: false,
             answer: Answer::Moved(2),
-            first: Some(first),
             second: Some(second),
+            ..Step::moves(process, first)
         }
     }
 
@@ -60,11 +56,8 @@ impl Step {
         ensures { result ≡ drops process }
     {
         Step {
-            process,
-            heed: false,
             answer: Answer::Dropped,
-            first: None,
-            second: None,
+            ..Step::moves_on(process)
         }
     }
 
@@ -72,11 +65,8 @@ impl Step {
         ensures { result ≡ heeds process }
     {
         Step {
-            process,
-            heed: true,
             answer: Answer::Heeded,
-            first: None,
-            second: None,
+            ..Step::moves_on(process)
         }
     }
 
@@ -85,11 +75,8 @@ impl Step {
         ensures { result ≡ acts process }
     {
         Step {
-            process,
-            heed: true,
             answer: Answer::Acted(0),
-            first: None,
-            second: None,
+            ..Step::moves_on(process)
         }
     }
 
@@ -97,11 +84,8 @@ impl Step {
         ensures { result ≡ acts_with process first }
     {
         Step {
-            process,
-            heed: true,
             answer: Answer::Acted(1),
-            first: Some(first),
-            second: None,
+            ..Step::moves(process, first)
         }
     }
 
@@ -109,34 +93,23 @@ impl Step {
         ensures { result ≡ acts_twice process first second }
     {
         Step {
-            process,
-            heed: true,
             answer: Answer::Acted(2),
-            first: Some(first),
-            second: Some(second),
+            ..Step::moves_twice(process, first, second)
         }
     }
 }
 
-// A new record, which nobody has got or heeded.
-fn new_record(
-    to: ProcessSet,
-    sender: u8,
-    kind: Kind,
-    number: u32,
-    value: u16,
-    back: u32,
-    vouch: Vouch,
-) -> Record
-    ensures { result ≡ sent to sender kind number value back vouch }
+// A new record, which nobody has got or heeded, with no backing and no vouch.
+fn new_record(sender: u8, to: ProcessSet, kind: Kind, number: u32, value: u16) -> Record
+    ensures { result ≡ sent to sender kind number value 0 Nothing }
 {
     Record {
         sender,
         kind,
         number,
         value,
-        back,
-        vouch,
+        back: 0,
+        vouch: Vouch::Nothing,
         to,
         got: ProcessSet { bits: 0 },
         heeded: ProcessSet { bits: 0 },
@@ -151,19 +124,24 @@ fn only(process: u8) -> ProcessSet
 }
 
 impl Seat {
-    // To all processes of the committee, with no backing and no vouch.
+    // To all processes of the committee.
     fn to_all(&self, kind: Kind, number: u32, value: u16) -> Record
         ensures { result ≡ to_all self.now.setting.committee self.now.number kind number value }
     {
         new_record(
-            self.setting.committee.everyone(),
             self.number,
+            self.setting.committee.everyone(),
             kind,
             number,
             value,
-            0,
-            Vouch::Nothing,
         )
+    }
+
+    // To the leader of a view.
+    fn to_leader(&self, leader: u8, kind: Kind, number: u32, value: u16) -> Record
+        ensures { result ≡ to_one leader self.now.number kind number value }
+    {
+        new_record(self.number, only(leader), kind, number, value)
     }
 
     // How long the view timer measures.
@@ -171,21 +149,6 @@ impl Seat {
         ensures { result ≡ view_ticks self.now.setting }
     {
         u64::from(self.setting.overlap) + 2 * u64::from(self.setting.delay)
-    }
-
-    // To the leader of a view.
-    fn to_leader(&self, leader: u8, kind: Kind, number: u32, value: u16) -> Record
-        ensures { result ≡ to_one leader self.now.number kind number value }
-    {
-        new_record(
-            only(leader),
-            self.number,
-            kind,
-            number,
-            value,
-            0,
-            Vouch::Nothing,
-        )
     }
 }
 
@@ -199,14 +162,9 @@ impl Process {
         self.core.step = 0;
         self.core.lead = 0;
         let prepared = self.core.prepared;
-        new_record(
-            only(leader),
-            sender,
-            Kind::ViewChange,
-            view,
-            prepared.value,
-            prepared.view,
-            Vouch::Nothing,
-        )
+        Record {
+            back: prepared.view,
+            ..new_record(sender, only(leader), Kind::ViewChange, view, prepared.value)
+        }
     }
 }

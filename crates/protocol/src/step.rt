@@ -1,9 +1,12 @@
 // What a move comes to, before it is carried out.
+ghost use Rattle.std.specs.Prelude.{◌≡◌};
+ghost use Rattle.protocol.specs.Steps.{is_heed};
+
 use crate::process::Process;
 use wire::Record;
 
 // What a move answers; the number is how many records it appended.
-#[derive(Clone, Copy)]
+#[derive(Clone, Copy, Debug, PartialEq, Eq)]
 pub enum Answer {
     Moved(u8),
     Dropped,
@@ -11,12 +14,19 @@ pub enum Answer {
     Acted(u8),
 }
 
+impl Answer {
+    // Whether the delivered record is heeded.
+    pub fn is_heed(self) -> bool
+        ensures { result ≡ is_heed self }
+    {
+        matches!(self, Answer::Heeded | Answer::Acted(_))
+    }
+}
+
 #[derive(Clone, Copy)]
 pub struct Step {
     // The process's new fields.
     pub process: Process,
-    // Whether the delivered record is heeded.
-    pub heed: bool,
     pub answer: Answer,
     // The records to append, in this order.
     pub first: Option<Record>,

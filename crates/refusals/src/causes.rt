@@ -1,6 +1,6 @@
 // The causes in the order in which they are met: the first that holds answers.
 
-#[derive(Clone, Copy, Debug)]
+#[derive(Clone, Copy, Debug, PartialEq, Eq)]
 pub enum Refusal {
     NotACommittee = 1,
     DurationOutOfRange = 2,

@@ -8,11 +8,11 @@ pub mod causes;
 
 pub use causes::Refusal;
 
-impl Refusal {
-    // The number that the board answers and prints.
-    pub fn number(self) -> u8
-        ensures { result ≡ refusal_number self }
-    {
-        self as u8
+// The number that the board answers and prints.
+impl From<Refusal> for u8 {
+    ghost from_gives = { λ cause number. number ≡ refusal_number cause };
+
+    fn from(cause: Refusal) -> u8 {
+        cause as u8
     }
 }

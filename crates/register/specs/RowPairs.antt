@@ -1,7 +1,10 @@
 -- The pairs that rows of signers stand for. Assumes nothing.
-use Rattle.std.specs.Prelude.{◌≡◌, ℕ, zero, suc, ◌+◌, ◌^◌, ◌<◌, ◌≤◌, Bool, true, false, cond, not, ◌&&◌, ◌||◌, List, [], ◌∷◌, ◌++◌, length, get_or, set, ◌==◌, nat_lt, slice_index_or, slice_set, refl}
+use Rattle.std.specs.Prelude.{◌≡◌, ℕ, zero, suc, ◌+◌, ◌^◌, ◌<◌, ◌≤◌, Bool, true, false, cond, not, ◌&&◌, ◌||◌, List, [], ◌∷◌, ◌++◌, length, Some, None, Option, get_or, set, ◌==◌, nat_lt, slice_index_or, slice_set, refl}
 use Rattle.std.proofs.Common.{sym, ap, ap₂, ◌∙◌, ⊎_elim, arith}
+use Rattle.std.specs.List.{position, position_or_len}
+use Rattle.std.proofs.lemmas.Grind.{common_steps}
 use Rattle.std.proofs.lemmas.List.{get_or_read}
+use Rattle.std.proofs.lemmas.List.Quantifiers.{position-Some}
 use Rattle.std.proofs.lemmas.Bool.{or_parts, or_from, or_cases, or_left, or_right, and_parts, and_from, and_left, and_right, ltb-true, le-ltb, not-true, not_from_false, both_ways, cases_Bool, cond-true, cond-false}
 use Rattle.std.proofs.lemmas.Bool.Decides.{nat_tests}
 use Rattle.counting.specs.Counts.{sum_to, count_to, any}
@@ -110,6 +113,24 @@ pub listed_none : (rs : List Row) (s : Statement) → ((k : ℕ) → k < length 
 listed_none [] s h = refl
 listed_none (r ∷ rs) s h = or_from _ _ (h 0 (omega arith)) (listed_none rs s (λ k l. h (suc k) (omega arith)))
 
+-- the first row that has the statement, or that none has, as a search for its place tells it
+place_none : (rs : List Row) (s : Statement) → length rs ≤ position_or_len (λ r. same_statement r.statement s) rs → listed rs s ≡ false
+place_none [] s h = refl
+place_none (r ∷ rs) s h =
+    ⊎_elim
+    (λ e. absurd (grind (arith, common_steps)))
+    (λ e. or_from _ _ e (place_none rs s (grind (arith, common_steps))))
+    (cases_Bool (same_statement r.statement s))
+
+abbrev pub place : List Row → Statement → Option ℕ
+place rs s = position (λ r. same_statement r.statement s) rs
+
+pub place_found : (rs : List Row) (i : ℕ) (s : Statement) → Some i ≡ place rs s → Found rs i s
+place_found rs i s e = position-Some (λ r. same_statement r.statement s) rs i no_row (sym e)
+
+pub place_listed : (rs : List Row) (s : Statement) → None ≡ place rs s → listed rs s ≡ false
+place_listed rs s e = place_none rs s (grind (arith, nat_tests))
+
 pub found_signers : (rs : List Row) (i : ℕ) (s : Statement) → Found rs i s → (get_or rs i no_row).signers ≡ row_signers rs s
 found_signers [] i s h = let l = h.0 in absurd (omega arith)
 found_signers (r ∷ rs) zero s h = sym (cond-true (same_statement r.statement s) _ _ h.1)
@@ -122,10 +143,10 @@ unlisted_signers (r ∷ rs) s h =
     let parts = or_parts (same_statement r.statement s) (listed rs s) h in
     cond-false (same_statement r.statement s) _ _ parts.0 ∙ unlisted_signers rs s parts.1
 
-set_add_to : (rs : List Row) (i p : ℕ) (s : Statement) → Found rs i s → slice_set rs i (row_of s (with_member (get_or rs i no_row).signers p)) ≡ add_to rs p s
+set_add_to : (rs : List Row) (i p : ℕ) (s : Statement) → Found rs i s
+    → let r = get_or rs i no_row in slice_set rs i (row_of r.statement (with_member r.signers p)) ≡ add_to rs p s
 set_add_to [] i p s h = let l = h.0 in absurd (omega arith)
-set_add_to (r ∷ rs) zero p s h =
-    ap (λ (t : Statement). row_of t (with_member r.signers p) ∷ rs) (sym (same_is r.statement s h.1)) ∙ sym (cond-true (same_statement r.statement s) _ _ h.1)
+set_add_to (r ∷ rs) zero p s h = sym (cond-true (same_statement r.statement s) _ _ h.1)
 set_add_to (r ∷ rs) (suc i) p s h =
     ap (λ (zs : List Row). r ∷ zs) (set_add_to rs i p s (let l = h.0 in omega arith, h.1, λ k l. h.2 (suc k) (omega arith)))
     ∙ sym (cond-false (same_statement r.statement s) _ _ (h.2 0 (omega arith)))
@@ -136,10 +157,14 @@ push_add_to (r ∷ rs) p s h =
     let parts = or_parts (same_statement r.statement s) (listed rs s) h in
     ap (λ (zs : List Row). r ∷ zs) (push_add_to rs p s parts.1) ∙ sym (cond-false (same_statement r.statement s) _ _ parts.0)
 
--- the same as the code has it: x is the row that it read, and m the set that it made
-pub put_there : (rs : List Row) (i p : ℕ) (m : ProcessSet) (x : Row) (s : Statement) → Found rs i s → x ≡ slice_index_or rs i x → m ≡ with_member x.signers p → slice_set rs i (row_of s m) ≡ add_to rs p s
-put_there rs i p m x s h read e =
-    ap (λ (k : ProcessSet). set rs i (row_of s k)) (e ∙ ap (λ (y : Row). with_member y.signers p) (get_or_read rs i x h.0 read no_row)) ∙ set_add_to rs i p s h
+-- the same as the code has it: x and y are the row that it read, and m the set that it made
+pub put_there : (rs : List Row) (i p : ℕ) (m : ProcessSet) (x y : Row) (s : Statement)
+    → Found rs i s → x ≡ slice_index_or rs i x → y ≡ slice_index_or rs i y → m ≡ with_member x.signers p → slice_set rs i (row_of y.statement m) ≡ add_to rs p s
+put_there rs i p m x y s h read again e =
+    ap₂ (λ (t : Statement) (k : ProcessSet). set rs i (row_of t k))
+    (ap (λ (z : Row). z.statement) (get_or_read rs i y h.0 again no_row))
+    (e ∙ ap (λ (z : Row). with_member z.signers p) (get_or_read rs i x h.0 read no_row))
+    ∙ set_add_to rs i p s h
 
 pub put_new : (rs ts : List Row) (p : ℕ) (m : ProcessSet) (s : Statement) → listed rs s ≡ false → m ≡ with_member (of_bits 0) p → ts ≡ rs ++ row_of s m ∷ [] → ts ≡ add_to rs p s
 put_new rs ts p m s h e q = q ∙ ap (λ (k : ProcessSet). rs ++ row_of s k ∷ []) e ∙ push_add_to rs p s h

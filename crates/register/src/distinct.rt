@@ -7,7 +7,7 @@ use crate::attests::Attests;
 use committee::ProcessSet;
 
 // The processes, 0 to 30, that have a record which counts.
-fn gather<Q, T: Attests<Q>>(items: &[T], query: &Q) -> ProcessSet
+pub fn distinct_processes<Q, T: Attests<Q>>(items: &[T], query: &Q) -> ProcessSet
     ensures { Gathered (seen T.process (λ x. T.counts x query.now) items.now) result }
 {
     let mut found = ProcessSet { bits: 0 };
@@ -18,12 +18,6 @@ fn gather<Q, T: Attests<Q>>(items: &[T], query: &Q) -> ProcessSet
         }
     }
     found
-}
-
-pub fn distinct_processes<Q, T: Attests<Q>>(items: &[T], query: &Q) -> ProcessSet
-    ensures { Gathered (seen T.process (λ x. T.counts x query.now) items.now) result }
-{
-    gather(items, query)
 }
 
 // How many they are.

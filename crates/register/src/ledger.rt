@@ -17,15 +17,11 @@ pub trait Register {
     // How many pairs there is room for.
     const ROOM: usize;
 
-    // The same number, as contracts speak of it.
-    ghost room: { ℕ };
+    // The same number, as clauses name it.
+    ghost ROOM: { ℕ };
 
     // A list in which no pair stands twice: it stands for the set.
     ghost pairs: { Self → List Pair };
-
-    // ROOM, tied to its name in contracts.
-    fn capacity() -> usize
-        ensures { result ≡ room };
 
     // How many pairs there are.
     fn held(&self) -> usize
@@ -38,17 +34,18 @@ pub trait Register {
     fn has(&self, pair: Pair) -> bool
         ensures { result ≡ has_pair (pairs self.now) pair.process pair.statement };
 
-    // Puts the pair in; one that is held already is accepted without change.
+    // Puts the pair in; one that is held already is accepted without change. Each register writes it over its own `put`: a body
+    // here would need a public method that asks something of its caller.
     fn sign(&mut self, pair: Pair) -> Result<(), Unsigned>
-        ensures { Signs room (pairs self.old) pair (pairs self.new) result };
+        ensures { Signs ROOM (pairs self.old) pair (pairs self.new) result };
 
-    ghost roomy: { 64 ≤ room };
+    ghost roomy: { 64 ≤ ROOM };
 
     ghost distinct: { (r : Self) → distinct_pairs (pairs r) ≡ true };
 
     ghost low: { (r : Self) → Low (pairs r) };
 
-    ghost within: { (r : Self) → length (pairs r) ≤ room };
+    ghost within: { (r : Self) → length (pairs r) ≤ ROOM };
 }
 
 // Whether a pair is to be put in, by whether it is held already and whether there is no room.

@@ -2,6 +2,7 @@
 
 #[derive(Clone, Copy, PartialEq, Eq)]
 pub struct Statement {
+    // Any number: a register takes every statement.
     pub kind: u8,
     pub number: u32,
     pub value: u16,

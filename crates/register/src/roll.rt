@@ -18,17 +18,10 @@ pub struct Roll {
     ghost low: { Low pairs.items },
 }
 
-// A lemma as a call: it computes nothing, and its contract is the fact.
-fn no_pairs()
-    ensures distinct { distinct_pairs [] ≡ true }
-    ensures low { Low [] }
-{}
-
 impl Roll {
     pub fn new(heap: Global) -> Result<Roll, AllocError>
         ensures { IfOk result (λ v. v.pairs.items ≡ []) }
     {
-        no_pairs();
         let pairs = Vec::with_capacity(heap, Self::ROOM)?;
         Ok(Roll { pairs })
     }
@@ -47,7 +40,7 @@ impl Roll {
 impl Register for Roll {
     const ROOM: usize = 2048;
 
-    ghost room = { 2048 };
+    ghost ROOM = { 2048 };
 
     ghost pairs = { λ r. r.pairs.items };
 
@@ -58,10 +51,6 @@ impl Register for Roll {
     ghost low = { Prim.search rules };
 
     ghost within = { Prim.search rules };
-
-    fn capacity() -> usize {
-        Self::ROOM
-    }
 
     fn held(&self) -> usize {
         self.pairs.len()

@@ -1,8 +1,9 @@
 // The tally keeps a row of signers for each statement.
-ghost use Rattle.std.specs.Prelude.{◌≡◌, ◌+◌, ◌<◌, ◌≤◌, true, false, [], length, IfOk, vec_len, vec_capacity, MatchOption};
+ghost use Rattle.std.specs.Prelude.{◌≡◌, ◌+◌, ◌<◌, ◌≤◌, true, false, [], length, IfOk, vec_len, vec_capacity};
+ghost use Rattle.std.specs.List.{position};
 ghost use Rattle.register.specs.Distinct.{Gathered};
-ghost use Rattle.register.specs.Pairs.{has_pair, Added};
-ghost use Rattle.register.specs.Rows.{pairs_of, sound, listed, Found, add_to};
+ghost use Rattle.register.specs.Pairs.{same_statement, has_pair, Added};
+ghost use Rattle.register.specs.Rows.{pairs_of, sound, add_to};
 ghost use Rattle.register.specs.RowPairs.{distinct_pairs_lem, low_pairs};
 ghost use Rattle.std.proofs.Common.{rules};
 
@@ -26,14 +27,9 @@ pub struct Tally {
 
 // Where the row of a statement stands.
 fn place(rows: &[Row], statement: Statement) -> Option<usize>
-    ensures { MatchOption result (listed rows.now statement ≡ false) (λ i. Found rows.now i statement) }
+    ensures { result ≡ position (λ r. same_statement r.statement statement) rows.now }
 {
-    for (i, row) in rows.iter().enumerate() {
-        if row.is_of(statement) {
-            return Some(i);
-        }
-    }
-    None
+    rows.iter().position(|row| row.is_of(statement))
 }
 
 // Adds a signer to the row of its statement, which is made where there is none.
@@ -45,11 +41,7 @@ fn mark(rows: &mut Vec<Row>, pair: Pair)
 {
     match place(rows.as_slice(), pair.statement) {
         Some(i) => {
-            let signers = rows[i].signers.with(pair.process);
-            rows[i] = Row {
-                statement: pair.statement,
-                signers,
-            };
+            rows[i].signers = rows[i].signers.with(pair.process);
         }
         None => {
             let signers = ProcessSet { bits: 0 }.with(pair.process);
@@ -94,7 +86,7 @@ impl Tally {
 impl Register for Tally {
     const ROOM: usize = 1024;
 
-    ghost room = { 1024 };
+    ghost ROOM = { 1024 };
 
     ghost pairs = { λ r. pairs_of r.rows.items };
 
@@ -105,10 +97,6 @@ impl Register for Tally {
     ghost low = { λ r. low_pairs r.rows.items };
 
     ghost within = { Prim.search rules };
-
-    fn capacity() -> usize {
-        Self::ROOM
-    }
 
     fn held(&self) -> usize {
         self.held

@@ -22,6 +22,7 @@ use Rattle.protocol.specs.Sending.{sent}
 use Rattle.protocol.specs.Certifying.{on_disclose, on_allow_any, on_certificate}
 use Rattle.protocol.specs.Synchronizing.{last_place, view_here, on_view_expiry, on_epoch_completed, on_enter_epoch}
 use Rattle.protocol.specs.Voting.{unlocked, phase_of, on_view_change, on_prepare, on_precommit, on_commit, on_decide, on_vote}
+use Rattle.protocol.specs.Steps.{is_heed}
 use Rattle.protocol.specs.Moments.{Moment, moment, seated, noted, done, played, received, marked, record_at, no_record}
 use Rattle.wire.specs.Claims.{claim_of, claim_holds}
 use Rattle.protocol.specs.Plans.{seat, used_of, asked, from_senders, best_backing, is_faulty, untimely, of_one_view, stale, undeliverable, at_end, is_due, deadline_of, tick_plan, propose_plan, expire_plan, deliver_plan, inject_plan, injecting, drafted, ruled_by}
@@ -199,4 +200,4 @@ played-decided (Ok z) p o x m short leaves some is = done_decided z p o x m m re
 pub received-decided : (plan : Result Step Refusal) (p i o x : ℕ) (m : Moment) → o < length m.table.processes → PlanLeaves (seat m.table p) plan
     → 1 ≤ x → (seat m.table o).core.decided ≡ x → (seat (received plan p i m).table o).core.decided ≡ x
 received-decided (Err e) p i o x m short leaves some is = is
-received-decided (Ok z) p i o x m short leaves some is = done_decided z p o x m (moment m.table (marked p i z.heed m.wire) m.signed) refl short leaves some is
+received-decided (Ok z) p i o x m short leaves some is = done_decided z p o x m (moment m.table (marked p i (is_heed z.answer) m.wire) m.signed) refl short leaves some is

@@ -9,6 +9,7 @@ use Rattle.committee.specs.Membership.{is_committee, size_for}
 use Rattle.register.specs.declared.ledger.Register.{Ghosts as RegisterMeans}
 use Rattle.protocol.specs.declared.board.Board.{Board}
 use Rattle.protocol.specs.declared.step.Step.{Step}
+use Rattle.protocol.specs.Steps.{is_heed}
 use Rattle.protocol.specs.Moments.{Moment, moment, marked, done, played, received}
 use Rattle.protocol.specs.Opening.{is_size, Opens}
 use Rattle.protocol.specs.Ranges.{between}
@@ -39,7 +40,7 @@ module _ {R G : Type 0} (γ : RegisterMeans G) (a : Sitting R G) (plan : Result 
       let P : Result Step Refusal → Type 0 = λ y. Makes γ y (received y p i before) a a (Err e) in
       subst P is (record { answer = refl; after = refl; same = refl; stays = λ _. refl })
 
-  pub received-done : (i : ℕ) (z : Step) (b : Sitting R G) → Ok z ≡ plan → moment_of γ b ≡ done p z (moment before.table (marked p i z.heed before.wire) before.signed)
+  pub received-done : (i : ℕ) (z : Step) (b : Sitting R G) → Ok z ≡ plan → moment_of γ b ≡ done p z (moment before.table (marked p i (is_heed z.answer) before.wire) before.signed)
       → b.board.rota ≡ a.board.rota → Makes γ plan (received plan p i before) a b (Ok z.answer)
   received-done i z b is left same =
       let P : Result Step Refusal → Type 0 = λ y. Makes γ y (received y p i before) a b (Ok z.answer) in

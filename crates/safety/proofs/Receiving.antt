@@ -11,7 +11,7 @@ use Rattle.protocol.specs.declared.step.Step.{Step}
 use Rattle.protocol.specs.Processes.{running}
 use Rattle.protocol.specs.Moments.{Moment, moment, marked, received, delivered, record_at, no_record}
 use Rattle.protocol.specs.Plans.{seat, used_of}
-use Rattle.protocol.specs.Steps.{drops, heeds, acts, acts_with, acts_twice}
+use Rattle.protocol.specs.Steps.{is_heed, drops, heeds, acts, acts_with, acts_twice}
 use Rattle.agreement.specs.Wires.{Wire, Correct, heard_of}
 use Rattle.safety.specs.Ties.{Tied, Capped}
 use Rattle.safety.specs.Kept.{committee_of, KeptBut, Kept, Sendable, Good, Room}
@@ -48,9 +48,9 @@ module _ (leader : ℕ → ℕ) (m : Moment) (k : Kept leader m) (p i : ℕ) (me
   room_at h (Some r) = omega (arith, length-set m.wire i (delivered p h (record_at m.wire i)))
 
   -- a step that is carried out on the marked wire
-  pub keep : (z : Step) → Good c leader (used_of (at z.heed)) p z.process z.first z.second → Capped c (used_of (at z.heed)) p z.process
+  pub keep : (z : Step) → Good c leader (used_of (at (is_heed z.answer))) p z.process z.first z.second → Capped c (used_of (at (is_heed z.answer))) p z.process
       → Kept leader (received (Ok z) p i m)
-  keep z good cap = kept_done leader p (at z.heed) z.process (rest_at z.heed) member (λ _. cap) z.first z.second good (room_at z.heed z.first)
+  keep z good cap = kept_done leader p (at (is_heed z.answer)) z.process (rest_at (is_heed z.answer)) member (λ _. cap) z.first z.second good (room_at (is_heed z.answer) z.first)
 
   runs_capped : (ws : Wire) (u : Process) → running u.certification.phase ≡ true → Capped c ws p u
   runs_capped ws u runs rests = absurd (both_ways _ rests runs)

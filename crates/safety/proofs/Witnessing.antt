@@ -4,7 +4,7 @@ use mathlib.Core.Path.{fun_ext}
 use Rattle.std.proofs.lemmas.Bool.{and_parts, eqb-true, false≢true, cases_Bool}
 use Rattle.std.proofs.lemmas.List.{length_push}
 use Rattle.refusals.specs.declared.causes.Refusal.{Refusal}
-use Rattle.counting.specs.Counts.{any, every, sum_to}
+use Rattle.counting.specs.Counts.{any, sum_to}
 use Rattle.counting.proofs.Booleans.{or_false}
 use Rattle.register.specs.declared.pair.Statement.{Statement}
 use Rattle.register.specs.declared.pair.Pair.{Pair}
@@ -15,6 +15,7 @@ use Rattle.wire.specs.declared.record.Record.{Record}
 use Rattle.wire.specs.Shares.{share_of}
 use Rattle.protocol.specs.declared.step.Step.{Step}
 use Rattle.protocol.specs.Processes.{blank_process}
+use Rattle.protocol.specs.Steps.{is_heed}
 use Rattle.protocol.specs.Moments.{Signed, Moment, moment, signed_of, with_pair, with_statement, noted, done, marked, played, received, told, no_record}
 use Rattle.protocol.specs.Plans.{best_from, tick_plan, propose_plan, expire_plan, deliver_plan}
 use Rattle.protocol.specs.Runs.{Sitting, sitting, moment_of, Makes, Move, Onward, New}
@@ -91,7 +92,7 @@ received-makes : (plan : Result Step Refusal) (p i : ℕ) (a : Played)
     → let m = received plan p i (moment_of pairs_held a) in Makes pairs_held plan m a (left plan m a) (told plan)
 received-makes (Err e) p i a = record { answer = refl; after = refl; same = refl; stays = λ _. refl }
 received-makes (Ok z) p i a =
-    let got = moment a.board.table (marked p i z.heed a.wire) (signed_of a.register) in
+    let got = moment a.board.table (marked p i (is_heed z.answer) a.wire) (signed_of a.register) in
     let m = done p z got in
     record { answer = refl; after = ap (moment m.table m.wire) (done-signed z p a.register got refl); same = refl; stays = λ e. absurd (false≢true (sym e)) }
 
@@ -145,7 +146,7 @@ abbrev completing : List Call
 completing = tick 0 25 ∷ expire 0 1 ∷ tick 0 25 ∷ expire 0 1 ∷ tick 1 25 ∷ expire 1 1 ∷ tick 1 25 ∷ expire 1 1 ∷ tick 2 25 ∷ expire 2 1 ∷ tick 2 25 ∷ expire 2 1 ∷ deliver 10 0 ∷ deliver 12 0 ∷ deliver 14 0 ∷ []
 
 pub some_decide : SomeDecide
-unfolding any every sum_to best_from plays start four
+unfolding any sum_to best_from plays start four
 some_decide =
     record {
       end = plays (certifying ++ deciding) start;
@@ -159,7 +160,7 @@ some_decide =
     }
 
 pub some_advance : SomeAdvance
-unfolding any every sum_to best_from plays start four
+unfolding any sum_to best_from plays start four
 some_advance =
     record {
       end = plays (certifying ++ completing) start;

@@ -21,7 +21,7 @@ abbrev pub in_turn : RotaMeans (Unit {0})
 in_turn = record { size = λ _. 4; leader = λ _ v. v % 4 }
 
 abbrev pub pairs_held : RegisterMeans (List Pair)
-pairs_held = record { room = 2048; pairs = λ xs. xs }
+pairs_held = record { ROOM = 2048; pairs = λ xs. xs }
 
 pub none_faulty : ones 0 ≡ 0
 unfolding ones

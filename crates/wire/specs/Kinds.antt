@@ -4,7 +4,10 @@
 --   kind_name k      the bytes of its printed name
 --   vouch_number v   the number of a vouch
 --   vouch_of m       the vouch that has the number m, if any
-use Rattle.std.specs.Prelude.{ℕ, cond, List, Some, None, codes, Option, ◌==◌}
+--   in_field o       what a number stands for, or that no field has it
+use Rattle.std.specs.Prelude.{ℕ, cond, List, Some, None, codes, Option, Ok, Err, Result, ◌==◌}
+use Rattle.refusals.specs.declared.causes.Refusal.{Refusal}
+use Rattle.refusals.specs.declared.causes.Refusal.TheVariants.{FieldOutOfRange}
 use Rattle.wire.specs.declared.kind.Kind.{Kind}
 use Rattle.wire.specs.declared.kind.Kind.TheVariants.{Disclose, AllowAny, Certificate, EpochCompleted, EnterEpoch, ViewChange, Prepare, PrepareVote, Precommit, PrecommitVote, Commit, CommitVote, Decide}
 use Rattle.wire.specs.declared.vouch.Vouch.{Vouch}
@@ -63,3 +66,7 @@ vouch_number Any = 2
 
 abbrev pub vouch_of : ℕ → Option Vouch
 vouch_of m = cond (m == 0) (Some Nothing) (cond (m == 1) (Some Disclosed) (cond (m == 2) (Some Any) None))
+
+abbrev pub in_field : {A : Type 0} → Option A → Result A Refusal
+in_field None = Err FieldOutOfRange
+in_field (Some x) = Ok x

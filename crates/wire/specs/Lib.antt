@@ -5,4 +5,3 @@ pub mod Claims
 pub mod Words
 pub mod Heeding
 pub mod Lines
-pub mod Texts

@@ -6,39 +6,24 @@ ghost use Rattle.wire.specs.Claims.{vouched, prepared, claim_of, claim_holds};
 use crate::claim::Claim;
 use crate::kind::Kind;
 use crate::record::Record;
+use crate::share::Share;
 use crate::vouch::Vouch;
 use committee::Committee;
-use register::{Register, Statement};
+use register::Register;
 
 impl Record {
     pub fn claim(&self, committee: &Committee) -> Claim
         ensures { result ≡ claim_of committee.now self.now }
     {
-        let phase = match self.kind {
+        let statement = match self.kind {
             Kind::Certificate => return self.vouched(committee),
-            Kind::EnterEpoch => {
-                let statement = Statement {
-                    kind: 3,
-                    number: self.number.saturating_sub(1),
-                    value: 0,
-                };
-                return Claim::Signed {
-                    statement,
-                    signers: committee.quorum(),
-                };
-            }
-            Kind::ViewChange if self.back > 0 => return self.prepared(committee),
-            Kind::Prepare if self.back > 0 => return self.prepared(committee),
+            Kind::EnterEpoch => Share::EpochCompleted.statement(self.number.saturating_sub(1), 0),
+            Kind::ViewChange | Kind::Prepare if self.back > 0 => return self.prepared(committee),
             Kind::Prepare => return self.vouched(committee),
-            Kind::Precommit => 4,
-            Kind::Commit => 5,
-            Kind::Decide => 6,
+            Kind::Precommit => Share::Prepare.statement(self.number, self.value),
+            Kind::Commit => Share::Precommit.statement(self.number, self.value),
+            Kind::Decide => Share::Commit.statement(self.number, self.value),
             _ => return Claim::Nothing,
-        };
-        let statement = Statement {
-            kind: phase,
-            number: self.number,
-            value: self.value,
         };
         Claim::Signed {
             statement,
@@ -66,16 +51,8 @@ impl Record {
     {
         let statement = match self.vouch {
             Vouch::Nothing => return Claim::Never,
-            Vouch::Disclosed => Statement {
-                kind: 1,
-                number: 0,
-                value: self.value,
-            },
-            Vouch::Any => Statement {
-                kind: 2,
-                number: 0,
-                value: 0,
-            },
+            Vouch::Disclosed => Share::Disclose.statement(0, self.value),
+            Vouch::Any => Share::AllowAny.statement(0, 0),
         };
         Claim::Signed {
             statement,
@@ -88,13 +65,8 @@ impl Record {
         ensures { result ≡ prepared committee.now self.now.number self.now.back self.now.value }
     {
         if self.back < self.number {
-            let statement = Statement {
-                kind: 4,
-                number: self.back,
-                value: self.value,
-            };
             Claim::Signed {
-                statement,
+                statement: Share::Prepare.statement(self.back, self.value),
                 signers: committee.quorum(),
             }
         } else {

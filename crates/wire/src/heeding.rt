@@ -16,13 +16,10 @@ impl Attests<Heeded> for Record {
     }
 
     fn counts(&self, query: &Heeded) -> bool {
-        let of_value = match query.value {
-            Some(value) => self.value == value,
-            None => true,
-        };
         self.heeded.contains(query.by)
-            & ((self.kind.number() == query.kind.number())
-                & ((self.number == query.number) & of_value))
+            && self.kind == query.kind
+            && self.number == query.number
+            && query.value.is_none_or(|value| self.value == value)
     }
 }
 

@@ -1,5 +1,5 @@
 // The thirteen kinds of record.
-#[derive(Clone, Copy)]
+#[derive(Clone, Copy, Debug, PartialEq, Eq, PartialOrd, Ord)]
 pub enum Kind {
     Disclose = 1,
     AllowAny = 2,

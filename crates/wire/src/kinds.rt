@@ -1,38 +1,44 @@
 // A kind's number and name.
 ghost use Rattle.std.specs.Prelude.{◌≡◌, ◌≤◌, length};
-ghost use Rattle.wire.specs.Kinds.{kind_number, kind_name, kind_of};
+ghost use Rattle.wire.specs.Kinds.{kind_number, kind_name, kind_of, in_field};
 
 use crate::kind::Kind;
+use refusals::Refusal;
+
+impl From<Kind> for u8 {
+    ghost from_gives = { λ kind number. number ≡ kind_number kind };
+
+    fn from(kind: Kind) -> u8 {
+        kind as u8
+    }
+}
+
+impl TryFrom<u8> for Kind {
+    type Error = Refusal;
+
+    ghost try_from_gives = { λ number kind. kind ≡ in_field (kind_of number) };
+
+    fn try_from(number: u8) -> Result<Kind, Refusal> {
+        Ok(match number {
+            1 => Kind::Disclose,
+            2 => Kind::AllowAny,
+            3 => Kind::Certificate,
+            4 => Kind::EpochCompleted,
+            5 => Kind::EnterEpoch,
+            6 => Kind::ViewChange,
+            7 => Kind::Prepare,
+            8 => Kind::PrepareVote,
+            9 => Kind::Precommit,
+            10 => Kind::PrecommitVote,
+            11 => Kind::Commit,
+            12 => Kind::CommitVote,
+            13 => Kind::Decide,
+            _ => return Err(Refusal::FieldOutOfRange),
+        })
+    }
+}
 
 impl Kind {
-    pub fn number(self) -> u8
-        ensures { result ≡ kind_number self }
-    {
-        self as u8
-    }
-
-    // None where no kind has the number.
-    pub fn from_number(number: u8) -> Option<Kind>
-        ensures { result ≡ kind_of number }
-    {
-        match number {
-            1 => Some(Kind::Disclose),
-            2 => Some(Kind::AllowAny),
-            3 => Some(Kind::Certificate),
-            4 => Some(Kind::EpochCompleted),
-            5 => Some(Kind::EnterEpoch),
-            6 => Some(Kind::ViewChange),
-            7 => Some(Kind::Prepare),
-            8 => Some(Kind::PrepareVote),
-            9 => Some(Kind::Precommit),
-            10 => Some(Kind::PrecommitVote),
-            11 => Some(Kind::Commit),
-            12 => Some(Kind::CommitVote),
-            13 => Some(Kind::Decide),
-            _ => None,
-        }
-    }
-
     // The name that is printed.
     pub fn name(self) -> &'static str
         ensures value { result.now ≡ kind_name self }

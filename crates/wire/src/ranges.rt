@@ -4,6 +4,7 @@ ghost use Rattle.wire.specs.Ranges.{number_fits, value_fits, back_fits, vouch_fi
 
 use crate::kind::Kind;
 use crate::record::Record;
+use crate::vouch::Vouch;
 use committee::Committee;
 use committee::views::LAST_VIEW;
 
@@ -17,7 +18,10 @@ impl Record {
         ensures { result ≡ in_range committee.now.n self.now }
     {
         self.sets_fit(committee)
-            & (self.number_fits() & (self.value_fits() & (self.back_fits() & self.vouch_fits())))
+            && self.number_fits()
+            && self.value_fits()
+            && self.back_fits()
+            && self.vouch_fits()
     }
 
     // Got and heeded need only name processes of the committee.
@@ -25,9 +29,11 @@ impl Record {
         ensures { result ≡ sets_fit committee.now.n self.now }
     {
         let limit = 1u32 << committee.n;
-        (self.sender < committee.n)
-            & ((self.to.bits > 0)
-                & ((self.to.bits < limit) & ((self.got.bits < limit) & (self.heeded.bits < limit))))
+        self.sender < committee.n
+            && self.to.bits > 0
+            && self.to.bits < limit
+            && self.got.bits < limit
+            && self.heeded.bits < limit
     }
 
     fn number_fits(&self) -> bool
@@ -46,7 +52,7 @@ impl Record {
     {
         let has_value = match self.kind {
             Kind::AllowAny | Kind::EpochCompleted | Kind::EnterEpoch => false,
-            Kind::Certificate => self.vouch.number() == 1,
+            Kind::Certificate => self.vouch == Vouch::Disclosed,
             Kind::ViewChange => self.back > 0,
             _ => true,
         };
@@ -70,6 +76,6 @@ impl Record {
             Kind::Prepare => self.back == 0,
             _ => false,
         };
-        has_vouch == (self.vouch.number() > 0)
+        has_vouch == (self.vouch != Vouch::Nothing)
     }
 }

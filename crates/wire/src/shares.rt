@@ -4,25 +4,22 @@ ghost use Rattle.wire.specs.Shares.{share_of};
 
 use crate::kind::Kind;
 use crate::record::Record;
+use crate::share::Share;
 use register::Statement;
 
 impl Record {
     pub fn share(&self) -> Option<Statement>
         ensures { result ≡ share_of self.now }
     {
-        let (kind, number, value) = match self.kind {
-            Kind::Disclose => (1, 0, self.value),
-            Kind::AllowAny => (2, 0, 0),
-            Kind::EpochCompleted => (3, self.number, 0),
-            Kind::PrepareVote => (4, self.number, self.value),
-            Kind::PrecommitVote => (5, self.number, self.value),
-            Kind::CommitVote => (6, self.number, self.value),
+        let (share, number, value) = match self.kind {
+            Kind::Disclose => (Share::Disclose, 0, self.value),
+            Kind::AllowAny => (Share::AllowAny, 0, 0),
+            Kind::EpochCompleted => (Share::EpochCompleted, self.number, 0),
+            Kind::PrepareVote => (Share::Prepare, self.number, self.value),
+            Kind::PrecommitVote => (Share::Precommit, self.number, self.value),
+            Kind::CommitVote => (Share::Commit, self.number, self.value),
             _ => return None,
         };
-        Some(Statement {
-            kind,
-            number,
-            value,
-        })
+        Some(share.statement(number, value))
     }
 }

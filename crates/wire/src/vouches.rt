@@ -1,25 +1,29 @@
 // A vouch's number.
 ghost use Rattle.std.specs.Prelude.{◌≡◌};
-ghost use Rattle.wire.specs.Kinds.{vouch_number, vouch_of};
+ghost use Rattle.wire.specs.Kinds.{vouch_number, vouch_of, in_field};
 
 use crate::vouch::Vouch;
+use refusals::Refusal;
 
-impl Vouch {
-    pub fn number(self) -> u8
-        ensures { result ≡ vouch_number self }
-    {
-        self as u8
+impl From<Vouch> for u8 {
+    ghost from_gives = { λ vouch number. number ≡ vouch_number vouch };
+
+    fn from(vouch: Vouch) -> u8 {
+        vouch as u8
     }
+}
 
-    // None where no vouch has the number.
-    pub fn from_number(number: u8) -> Option<Vouch>
-        ensures { result ≡ vouch_of number }
-    {
+impl TryFrom<u8> for Vouch {
+    type Error = Refusal;
+
+    ghost try_from_gives = { λ number vouch. vouch ≡ in_field (vouch_of number) };
+
+    fn try_from(number: u8) -> Result<Vouch, Refusal> {
         match number {
-            0 => Some(Vouch::Nothing),
-            1 => Some(Vouch::Disclosed),
-            2 => Some(Vouch::Any),
-            _ => None,
+            0 => Ok(Vouch::Nothing),
+            1 => Ok(Vouch::Disclosed),
+            2 => Ok(Vouch::Any),
+            _ => Err(Refusal::FieldOutOfRange),
         }
     }
 }

@@ -2,11 +2,10 @@
 ghost use Rattle.std.specs.Prelude.{◌≡◌};
 ghost use Rattle.protocol.specs.Certifying.{proposes, begins, on_disclose, on_allow_any, on_certificate};
 
-use super::new_record;
 use crate::process::Phase;
 use crate::seat::{Delivery, Seat};
 use crate::step::Step;
-use wire::{Kind, Vouch};
+use wire::{Kind, Record, Vouch};
 
 impl Seat {
     // The process proposes a value and discloses it.
@@ -31,15 +30,10 @@ impl Seat {
         process.synchronizer.place = 1;
         process.synchronizer.due = process.synchronizer.clock + self.view_ticks();
         let entry = process.enter(1, self.number, leader);
-        let certificate = new_record(
-            self.setting.committee.everyone(),
-            self.number,
-            Kind::Certificate,
-            0,
-            value,
-            0,
+        let certificate = Record {
             vouch,
-        );
+            ..self.to_all(Kind::Certificate, 0, value)
+        };
         Step::acts_twice(process, certificate, entry)
     }
 }

@@ -11,20 +11,12 @@ impl Draft {
     pub fn record(&self, sender: u8) -> Option<Record>
         ensures { result ≡ draft_of sender self.now }
     {
-        let Some(kind) = Kind::from_number(self.kind) else {
-            return None;
-        };
-        let Some(vouch) = Vouch::from_number(self.vouch) else {
-            return None;
-        };
-        Some(new_record(
-            self.to,
-            sender,
-            kind,
-            self.number,
-            self.value,
-            self.back,
+        let kind = Kind::try_from(self.kind).ok()?;
+        let vouch = Vouch::try_from(self.vouch).ok()?;
+        Some(Record {
+            back: self.back,
             vouch,
-        ))
+            ..new_record(sender, self.to, kind, self.number, self.value)
+        })
     }
 }

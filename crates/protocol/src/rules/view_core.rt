@@ -1,13 +1,13 @@
 // The view core: what a leader proposes, and what processes vote for.
 ghost use Rattle.std.specs.Prelude.{◌≡◌};
-ghost use Rattle.protocol.specs.Voting.{proposing, on_view_change, unlocked, on_prepare, on_precommit, on_commit, on_decide, on_vote};
+ghost use Rattle.protocol.specs.Voting.{proposing, on_view_change, unlocked, on_prepare, on_quorum, on_decide, on_vote};
 
-use super::new_record;
 use crate::ballot::Ballot;
 use crate::process::Mark;
 use crate::seat::{Delivery, Seat};
+use crate::stage::Stage;
 use crate::step::Step;
-use wire::{Kind, Vouch};
+use wire::{Kind, Record, Vouch};
 
 impl Seat {
     // The leader proposes the backed value, or its offer where nothing backs one.
@@ -22,19 +22,12 @@ impl Seat {
         };
         process.core.lead = 1;
         process.core.led = value;
-        let everyone = self.setting.committee.everyone();
-        Step::acts_with(
-            process,
-            new_record(
-                everyone,
-                self.number,
-                Kind::Prepare,
-                view,
-                value,
-                best.view,
-                vouch,
-            ),
-        )
+        let proposal = Record {
+            back: best.view,
+            vouch,
+            ..self.to_all(Kind::Prepare, view, value)
+        };
+        Step::acts_with(process, proposal)
     }
 }
 
@@ -58,8 +51,9 @@ impl Delivery {
         ensures { result ≡ unlocked self.now.seat.process.core self.now.delivered }
     {
         let locked = self.seat.process.core.locked;
-        (locked.view == 0)
-            | ((self.delivered.value == locked.value) | (self.delivered.back > locked.view))
+        locked.view == 0
+            || self.delivered.value == locked.value
+            || self.delivered.back > locked.view
     }
 
     pub fn on_prepare(&self, holds: bool, leader: u8) -> Step
@@ -67,7 +61,7 @@ impl Delivery {
     {
         let mut process = self.seat.process;
         let delivered = self.delivered;
-        if (delivered.sender == leader) & ((process.core.step == 0) & (holds & self.unlocked())) {
+        if delivered.sender == leader && process.core.step == 0 && holds && self.unlocked() {
             process.core.step = 1;
             return Step::acts_with(
                 process,
@@ -77,47 +71,28 @@ impl Delivery {
         Step::drops(process)
     }
 
-    pub fn on_precommit(&self, holds: bool, leader: u8) -> Step
-        ensures { result ≡ on_precommit self.now.seat.process self.now.seat.number self.now.delivered holds leader }
+    // PRECOMMIT or COMMIT: the value is prepared or locked, and voted for.
+    pub fn on_quorum(&self, stage: Stage, holds: bool, leader: u8) -> Step
+        ensures { result ≡ on_quorum stage self.now.seat.process self.now.seat.number self.now.delivered holds leader }
     {
         let mut process = self.seat.process;
         let delivered = self.delivered;
-        if (delivered.sender == leader) & ((process.core.step < 2) & holds) {
-            process.core.prepared = Mark {
-                view: delivered.number,
-                value: delivered.value,
-            };
-            process.core.step = 2;
-            return Step::acts_with(
-                process,
-                self.seat.to_leader(
-                    leader,
-                    Kind::PrecommitVote,
-                    delivered.number,
-                    delivered.value,
-                ),
-            );
+        if delivered.sender != leader || process.core.step >= stage.step() || !holds {
+            return Step::drops(process);
         }
-        Step::drops(process)
-    }
-
-    pub fn on_commit(&self, holds: bool, leader: u8) -> Step
-        ensures { result ≡ on_commit self.now.seat.process self.now.seat.number self.now.delivered holds leader }
-    {
-        let mut process = self.seat.process;
-        let delivered = self.delivered;
-        if (delivered.sender == leader) & ((process.core.step < 3) & holds) {
-            process.core.locked = Mark {
-                view: delivered.number,
-                value: delivered.value,
-            };
-            process.core.step = 3;
-            return Step::acts_with(
-                process,
-                self.seat.to_leader(leader, Kind::CommitVote, delivered.number, delivered.value),
-            );
+        let mark = Mark {
+            view: delivered.number,
+            value: delivered.value,
+        };
+        match stage {
+            Stage::Precommit => process.core.prepared = mark,
+            Stage::Commit => process.core.locked = mark,
         }
-        Step::drops(process)
+        process.core.step = stage.step();
+        let vote = self
+            .seat
+            .to_leader(leader, stage.vote(), delivered.number, delivered.value);
+        Step::acts_with(process, vote)
     }
 
     // DECIDE of any view and sender.
@@ -125,7 +100,7 @@ impl Delivery {
         ensures { result ≡ on_decide self.now.seat.process self.now.delivered holds }
     {
         let mut process = self.seat.process;
-        if (process.core.decided == 0) & holds {
+        if process.core.decided == 0 && holds {
             process.core.decided = self.delivered.value;
             return Step::acts(process);
         }
@@ -138,19 +113,20 @@ impl Delivery {
     {
         let seat = self.seat;
         let mut process = seat.process;
-        if !(leads & ((process.core.lead >= 1) & (self.delivered.value == process.core.led))) {
+        if !leads || process.core.lead < 1 || self.delivered.value != process.core.led {
             return Step::drops(process);
         }
-        let (phase, next) = match ballot {
-            Ballot::Prepare => (1, Kind::Precommit),
-            Ballot::Precommit => (2, Kind::Commit),
-            Ballot::Commit => (3, Kind::Decide),
-        };
-        if from >= u32::from(seat.setting.committee.quorum()) && process.core.lead == phase {
-            process.core.lead = phase + 1;
+        if from >= u32::from(seat.setting.committee.quorum())
+            && process.core.lead == ballot.phase()
+        {
+            process.core.lead = ballot.phase() + 1;
             return Step::acts_with(
                 process,
-                seat.to_all(next, self.delivered.number, self.delivered.value),
+                seat.to_all(
+                    ballot.next_kind(),
+                    self.delivered.number,
+                    self.delivered.value,
+                ),
             );
         }
         Step::heeds(process)

@@ -1,8 +1,8 @@
 use Rattle.std.proofs.Common.{◌+◌, take, sym, ◌∙◌, subst, inl, inr, arith}
 use Rattle.committee.specs.declared.sets.ProcessSet.{ProcessSet}
 use Rattle.register.proofs.Gathering.{Stands, stands_none, stands_yes, stands_no, stands_all}
-use Rattle.register.proofs.distinct.gather.Goals as goal
-use Rattle.register.proofs.distinct.gather.Goals.{then-p-le30+then-counts, else-p-le30, else-p-le30-via-then-p-le30+else-counts, else-p-le30-via-else-p-le30}
+use Rattle.register.proofs.distinct.distinct_processes.Goals as goal
+use Rattle.register.proofs.distinct.distinct_processes.Goals.{then-p-le30+then-counts, else-p-le30, else-p-le30-via-then-p-le30+else-counts, else-p-le30-via-else-p-le30}
 
 pub loop-x-init : goal.loop-x-init
 loop-x-init g c = stands_none g.T.Attests.process (λ x. g.T.Attests.counts x c.args.query.now)
