@@ -94,12 +94,12 @@ impl<'a> Scene<'a> {
 
     // Two records are free, and the register takes one more pair.
     pub fn find_room<G: Register>(&self, register: &G) -> Result<(), Refusal>
-        ensures { FindsRoom G.Register.room (shown self.now (G.Register.pairs register.now)) result }
+        ensures { FindsRoom G.Register.ROOM (shown self.now (G.Register.pairs register.now)) result }
     {
         if self.wire.len().min(LONGEST_WIRE) < usize::from(self.table.used) + 2 {
             return Err(Refusal::WireFull);
         }
-        if register.held() == G::capacity() {
+        if register.held() == G::ROOM {
             return Err(Refusal::RegisterFull);
         }
         Ok(())

@@ -13,7 +13,7 @@ use wire::Record;
 // Signs the share of a record, if it has one, in the name of its sender.
 fn sign_share<G: Register>(register: &mut G, sent: &Record)
     requires known { sent.now.sender ≤ 30 }
-    requires free { is_some (share_of sent.now) ≡ true → length (G.Register.pairs register.old) ≢ G.Register.room }
+    requires free { is_some (share_of sent.now) ≡ true → length (G.Register.pairs register.old) ≢ G.Register.ROOM }
     ensures { signed_of (G.Register.pairs register.new) ≡ with_share sent.now (signed_of (G.Register.pairs register.old)) }
 {
     if let Some(statement) = sent.share() {
@@ -29,7 +29,7 @@ fn append<G: Register>(table: &mut Table, wire: &mut [Record], register: &mut G,
     requires within { table.old.used < length wire.old }
     requires capped { table.old.used < 65535 }
     requires known { sent.sender ≤ 30 }
-    requires free { is_some (share_of sent) ≡ true → length (G.Register.pairs register.old) ≢ G.Register.room }
+    requires free { is_some (share_of sent) ≡ true → length (G.Register.pairs register.old) ≢ G.Register.ROOM }
     ensures { moment table.new wire.new (signed_of (G.Register.pairs register.new)) ≡ appended sent (moment table.old wire.old (signed_of (G.Register.pairs register.old))) }
 {
     wire[usize::from(table.used)] = sent;
@@ -45,7 +45,7 @@ fn carry_out<G: Register>(
     process: u8,
     step: &Step,
 )
-    requires { Doable G.Register.room process (moment table.old wire.old (signed_of (G.Register.pairs register.old))) (Ok step.now) }
+    requires { Doable G.Register.ROOM process (moment table.old wire.old (signed_of (G.Register.pairs register.old))) (Ok step.now) }
     ensures { moment table.new wire.new (signed_of (G.Register.pairs register.new)) ≡ done process step.now (moment table.old wire.old (signed_of (G.Register.pairs register.old))) }
 {
     table.processes[usize::from(process)] = step.process;

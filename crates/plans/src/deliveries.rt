@@ -8,7 +8,7 @@ ghost use Rattle.plans.specs.Arriving.{Arrives};
 use crate::arrival::Arrival;
 use admission::{Scene, admit, is_stale};
 use committee::Rota;
-use protocol::{Ballot, Board, Delivery, Step, best_backing, from_senders};
+use protocol::{Ballot, Board, Delivery, Stage, Step, best_backing, from_senders};
 use refusals::Refusal;
 use register::Register;
 use wire::{Heeded, Kind, Record};
@@ -74,13 +74,13 @@ impl<'a> Arrival<'a> {
             }
             Kind::Prepare => delivery.on_prepare(holds, leader),
             Kind::PrepareVote => delivery.on_vote(Ballot::Prepare, leader == process, from_same),
-            Kind::Precommit => delivery.on_precommit(holds, leader),
+            Kind::Precommit => delivery.on_quorum(Stage::Precommit, holds, leader),
             Kind::PrecommitVote => delivery.on_vote(
                 Ballot::Precommit,
                 leader == process,
                 from_same,
             ),
-            Kind::Commit => delivery.on_commit(holds, leader),
+            Kind::Commit => delivery.on_quorum(Stage::Commit, holds, leader),
             Kind::CommitVote => delivery.on_vote(Ballot::Commit, leader == process, from_same),
             Kind::Decide => delivery.on_decide(holds),
         }
@@ -88,7 +88,7 @@ impl<'a> Arrival<'a> {
 
     // A correct process takes the record.
     fn take<R: Rota, G: Register>(&self, rota: &R, register: &G) -> Result<Step, Refusal>
-        ensures { result ≡ (let m = shown self.now.scene (G.Register.pairs register.now) in let p = self.now.scene.seat.number in taken G.Register.room m p self.now.index (ruled (R.Rota.leader rota.now) m p self.now.index self.now.delivery.delivered)) }
+        ensures { result ≡ (let m = shown self.now.scene (G.Register.pairs register.now) in let p = self.now.scene.seat.number in taken G.Register.ROOM m p self.now.index (ruled (R.Rota.leader rota.now) m p self.now.index self.now.delivery.delivered)) }
     {
         let process = self.delivery.seat.process;
         admit(&process, &self.delivery.delivered)?;
@@ -107,7 +107,7 @@ pub fn plan_deliver<R: Rota, G: Register>(
     index: u16,
     process: u8,
 ) -> Result<Step, Refusal>
-    ensures { result ≡ deliver_plan (R.Rota.leader board.now.rota) (R.Rota.size board.now.rota) G.Register.room (moment board.now.table wire.now (signed_of (G.Register.pairs register.now))) process index }
+    ensures { result ≡ deliver_plan (R.Rota.leader board.now.rota) (R.Rota.size board.now.rota) G.Register.ROOM (moment board.now.table wire.now (signed_of (G.Register.pairs register.now))) process index }
 {
     let scene = Scene::of(board, wire, process)?;
     let arrival = Arrival::at(scene, index)?;

@@ -43,15 +43,15 @@ pub fn plan_propose<R: Rota, G: Register>(
     process: u8,
     value: u16,
 ) -> Result<Step, Refusal>
-    ensures { result ≡ propose_plan (R.Rota.size board.now.rota) G.Register.room (moment board.now.table wire.now (signed_of (G.Register.pairs register.now))) process value }
+    ensures { result ≡ propose_plan (R.Rota.size board.now.rota) G.Register.ROOM (moment board.now.table wire.now (signed_of (G.Register.pairs register.now))) process value }
 {
     let scene = Scene::of_correct(board, wire, process)?;
     if value == 0 {
         return Err(Refusal::FieldOutOfRange);
     }
-    let Phase::Idle = scene.seat.process.certification.phase else {
+    if scene.seat.process.certification.phase != Phase::Idle {
         return Err(Refusal::Untimely);
-    };
+    }
     scene.find_room(register)?;
     Ok(scene.seat.proposes(value))
 }
@@ -65,7 +65,7 @@ fn is_due(process: &Process, timer: Timer) -> bool
         Timer::View => at.due,
         Timer::Spread => at.spread,
     };
-    (0 < deadline) & (deadline <= at.clock)
+    0 < deadline && deadline <= at.clock
 }
 
 // The view timer has expired, unless no epoch follows.
@@ -108,7 +108,7 @@ pub fn plan_expire<R: Rota, G: Register>(
     process: u8,
     timer: u8,
 ) -> Result<Step, Refusal>
-    ensures { result ≡ expire_plan (R.Rota.leader board.now.rota) (R.Rota.size board.now.rota) G.Register.room (moment board.now.table wire.now (signed_of (G.Register.pairs register.now))) process timer }
+    ensures { result ≡ expire_plan (R.Rota.leader board.now.rota) (R.Rota.size board.now.rota) G.Register.ROOM (moment board.now.table wire.now (signed_of (G.Register.pairs register.now))) process timer }
 {
     let scene = Scene::of_correct(board, wire, process)?;
     let timer = Timer::try_from(timer)?;
@@ -127,7 +127,7 @@ pub fn plan_inject<R: Rota, G: Register>(
     process: u8,
     draft: Draft,
 ) -> Result<Step, Refusal>
-    ensures { result ≡ inject_plan (R.Rota.size board.now.rota) G.Register.room (moment board.now.table wire.now (signed_of (G.Register.pairs register.now))) process draft }
+    ensures { result ≡ inject_plan (R.Rota.size board.now.rota) G.Register.ROOM (moment board.now.table wire.now (signed_of (G.Register.pairs register.now))) process draft }
 {
     let scene = Scene::of(board, wire, process)?;
     if !scene.is_faulty() {

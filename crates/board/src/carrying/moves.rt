@@ -71,7 +71,7 @@ pub fn deliver<R: Rota, G: Register>(
     ensures keeps { Keeps R.Rota G.Register (sitting board.old wire.old register.old) (sitting board.new wire.new register.new) }
 {
     let step = plan_deliver(board, wire, register, index, process)?;
-    mark(wire, index, process, step.heed);
+    mark(wire, index, process, step.answer.is_heed());
     carry_out(&mut board.table, wire, register, process, &step);
     Ok(step.answer)
 }

@@ -16,9 +16,9 @@ mark-requires g c =
 pub carry_out-requires : goal.carry_out-requires
 carry_out-requires g c =
     let m = moment_of g.G.Register (sitting c.args.board.now c.args.wire.now c.args.register.now) in
-    marked_doable g.G.Register.room _ m _ _ c.in_ok-step.step _ c.in_ok-step.ensures (deliver_doable _ _ m _ (g.R.Rota.leader c.args.board.now.rota) c.args.index) c.mark.ensures
+    marked_doable g.G.Register.ROOM _ m _ _ _ c.in_ok-step.step _ c.in_ok-step.ensures (deliver_doable _ _ m _ (g.R.Rota.leader c.args.board.now.rota) c.args.index) c.mark.ensures
 
 pub returns-clause-keeps : goal.returns-clause-keeps
 returns-clause-keeps g c =
     let a = sitting c.args.board.now c.args.wire.now c.args.register.now in
-    carried_marked g.R.Rota g.G.Register g.met.R.Rota.inside a _ _ c.in_ok-step.step _ c.in_ok-step.ensures refl _ _ c.mark.ensures c.carry_out.ensures (delivers c.args.index _ _)
+    carried_marked g.R.Rota g.G.Register g.met.R.Rota.inside a _ _ c.in_ok-step.step _ c.in_ok-step.ensures refl _ _ _ c.is_heed.ensures c.mark.ensures c.carry_out.ensures (delivers c.args.index _ _)

@@ -11,7 +11,7 @@ returns-in_err-step-clause-keeps g c = stays g.R.Rota g.G.Register g.met.R.Rota.
 pub carry_out-requires : goal.carry_out-requires
 carry_out-requires g c =
     let m = moment_of g.G.Register (sitting c.args.board.now c.args.wire.now c.args.register.now) in
-    step_doable g.G.Register.room _ m _ c.in_ok-step.step c.in_ok-step.ensures (inject_doable _ _ m _ c.args.draft)
+    step_doable g.G.Register.ROOM _ m _ c.in_ok-step.step c.in_ok-step.ensures (inject_doable _ _ m _ c.args.draft)
 
 pub returns-clause-keeps : goal.returns-clause-keeps
 returns-clause-keeps g c =
