@@ -1,8 +1,8 @@
 // Carrying out a step, for every move: nothing else writes to a board, a wire or a register.
-ghost use Rattle.std.specs.Prelude.{◌≡◌, ◌<◌, ◌≤◌, true, length, is_some, ◌≢◌};
+ghost use Rattle.std.specs.Prelude.{◌≡◌, ◌<◌, ◌≤◌, true, length, is_some, Ok, ◌≢◌};
 ghost use Rattle.wire.specs.Shares.{share_of};
 ghost use Rattle.protocol.specs.Moments.{moment, signed_of, with_share, appended, done, marked};
-ghost use Rattle.protocol.specs.Ready.{Ready};
+ghost use Rattle.protocol.specs.Ready.{Doable};
 
 pub mod moves;
 
@@ -13,7 +13,7 @@ use wire::Record;
 // Signs the share of a record, if it has one, in the name of its sender.
 fn sign_share<G: Register>(register: &mut G, sent: &Record)
     requires known { sent.now.sender ≤ 30 }
-    requires free { is_some (share_of sent.now) ≡ true → length (G.Register.pairs register.old) ≢ G.Register.room }
+    requires free { is_some (share_of sent.now) ≡ true → length (G.Register.pairs register.old) ≢ G.Register.ROOM }
     ensures { signed_of (G.Register.pairs register.new) ≡ with_share sent.now (signed_of (G.Register.pairs register.old)) }
 {
     if let Some(statement) = sent.share() {
@@ -29,7 +29,7 @@ fn append<G: Register>(table: &mut Table, wire: &mut [Record], register: &mut G,
     requires within { table.old.used < length wire.old }
     requires capped { table.old.used < 65535 }
     requires known { sent.sender ≤ 30 }
-    requires free { is_some (share_of sent) ≡ true → length (G.Register.pairs register.old) ≢ G.Register.room }
+    requires free { is_some (share_of sent) ≡ true → length (G.Register.pairs register.old) ≢ G.Register.ROOM }
     ensures { moment table.new wire.new (signed_of (G.Register.pairs register.new)) ≡ appended sent (moment table.old wire.old (signed_of (G.Register.pairs register.old))) }
 {
     wire[usize::from(table.used)] = sent;
@@ -45,8 +45,7 @@ fn carry_out<G: Register>(
     process: u8,
     step: &Step,
 )
-    requires known { process < 31 }
-    requires ready { Ready G.Register.room process (moment table.old wire.old (signed_of (G.Register.pairs register.old))) step.now.first step.now.second }
+    requires { Doable G.Register.ROOM process (moment table.old wire.old (signed_of (G.Register.pairs register.old))) (Ok step.now) }
     ensures { moment table.new wire.new (signed_of (G.Register.pairs register.new)) ≡ done process step.now (moment table.old wire.old (signed_of (G.Register.pairs register.old))) }
 {
     table.processes[usize::from(process)] = step.process;

@@ -6,40 +6,12 @@ ghost use Rattle.protocol.specs.Opening.{Opens};
 ghost use Rattle.safety.specs.Promises.{Begins};
 
 use committee::{Committee, ProcessSet, Rota};
-use protocol::process::{Certification, Mark, Phase, Synchronizer, ViewCore};
 use protocol::{Board, Process, Setting, Table};
 use refusals::Refusal;
 use register::Register;
-use wire::Vouch;
 
-// A process that has done nothing.
-const BLANK: Process = Process {
-    certification: Certification {
-        phase: Phase::Idle,
-        proposal: 0,
-        offer: 0,
-        vouch: Vouch::Nothing,
-        allowed: false,
-    },
-    synchronizer: Synchronizer {
-        epoch: 0,
-        place: 0,
-        clock: 0,
-        due: 0,
-        spread: 0,
-    },
-    core: ViewCore {
-        view: 0,
-        prepared: Mark { view: 0, value: 0 },
-        locked: Mark { view: 0, value: 0 },
-        step: 0,
-        lead: 0,
-        led: 0,
-        decided: 0,
-    },
-};
-
-fn new_board<R: Rota + Drop, G: Register>(
+// A new board for a committee of 3f + 1 processes, δ and Δ, with its rota; an unlawful list of leaders comes as no rota.
+pub fn open<R: Rota + Drop, G: Register>(
     f: u8,
     faulty: ProcessSet,
     delay: u32,
@@ -47,7 +19,8 @@ fn new_board<R: Rota + Drop, G: Register>(
     rota: Option<R>,
     register: &G,
 ) -> Result<Board<R>, Refusal>
-    ensures { Opens R.Rota f faulty delay overlap rota (length (G.Register.pairs register.now)) result }
+    ensures exact { Opens R.Rota f faulty delay overlap rota (length (G.Register.pairs register.now)) result }
+    ensures begins { IfOk result (λ b. Begins R.Rota G.Register b register.now) }
 {
     let committee = Committee::new(f, faulty)?;
     let setting = Setting {
@@ -69,37 +42,8 @@ fn new_board<R: Rota + Drop, G: Register>(
     }
     let table = Table {
         setting,
-        processes: [BLANK; 31],
+        processes: [Process::default(); 31],
         used: 0,
     };
     Ok(Board { table, rota })
-}
-
-fn new_run<R: Rota + Drop, G: Register>(
-    f: u8,
-    faulty: ProcessSet,
-    delay: u32,
-    overlap: u32,
-    rota: Option<R>,
-    register: &G,
-) -> Result<Board<R>, Refusal>
-    ensures exact { Opens R.Rota f faulty delay overlap rota (length (G.Register.pairs register.now)) result }
-    ensures begins { IfOk result (λ b. Begins R.Rota G.Register b register.now) }
-{
-    new_board(f, faulty, delay, overlap, rota, register)
-}
-
-// A new board for a committee of 3f + 1 processes, δ and Δ, with its rota; an unlawful list of leaders comes as no rota.
-pub fn open<R: Rota + Drop, G: Register>(
-    f: u8,
-    faulty: ProcessSet,
-    delay: u32,
-    overlap: u32,
-    rota: Option<R>,
-    register: &G,
-) -> Result<Board<R>, Refusal>
-    ensures exact { Opens R.Rota f faulty delay overlap rota (length (G.Register.pairs register.now)) result }
-    ensures begins { IfOk result (λ b. Begins R.Rota G.Register b register.now) }
-{
-    new_run(f, faulty, delay, overlap, rota, register)
 }

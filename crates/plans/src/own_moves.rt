@@ -1,15 +1,15 @@
 // The moves that a process makes of its own: propose, tick and expire, and inject for a faulty one.
-ghost use Rattle.std.specs.Prelude.{◌≡◌, ◌+◌, ◌≤◌};
+ghost use Rattle.std.specs.Prelude.{◌≡◌};
 ghost use Rattle.protocol.specs.Moments.{moment, signed_of};
-ghost use Rattle.protocol.specs.Plans.{tick_plan, propose_plan, is_due, deadline_of, expire_plan, inject_plan};
-ghost use Rattle.protocol.specs.Drafts.{draft_as};
-ghost use Rattle.protocol.specs.Rulings.{view_expiry_of, spread_expiry_of, expiry_of};
+ghost use Rattle.protocol.specs.Plans.{tick_plan, propose_plan, is_due, deadline_of, view_expiry, spread_expiry, expiry, expire_plan, inject_plan};
+ghost use Rattle.plans.specs.Timers.{timer_number};
 
-use admission::{find_room, seat_at};
+use crate::timer::Timer;
+use admission::Scene;
 use committee::Rota;
 use protocol::process::Phase;
 use protocol::ranges::{LAST_EPOCH, LAST_TICK};
-use protocol::{Board, Draft, Process, Seat, Step};
+use protocol::{Board, Draft, Process, Step};
 use refusals::Refusal;
 use register::Register;
 use wire::Record;
@@ -26,17 +26,14 @@ pub fn plan_tick<R: Rota, G: Register>(
 ) -> Result<Step, Refusal>
     ensures { result ≡ tick_plan (R.Rota.size board.now.rota) (moment board.now.table wire.now (signed_of (G.Register.pairs register.now))) process ticks }
 {
-    let seat = seat_at(board, wire, process)?;
-    if seat.setting.committee.faulty.contains(process) {
-        return Err(Refusal::WrongSide);
-    }
+    let scene = Scene::of_correct(board, wire, process)?;
     if ticks < 1 || ticks > MOST_TICKS {
         return Err(Refusal::FieldOutOfRange);
     }
-    if seat.process.synchronizer.clock + u64::from(ticks) > LAST_TICK {
+    if scene.seat.process.synchronizer.clock + u64::from(ticks) > LAST_TICK {
         return Err(Refusal::ClockAtEnd);
     }
-    Ok(seat.on_tick(ticks))
+    Ok(scene.seat.on_tick(ticks))
 }
 
 pub fn plan_propose<R: Rota, G: Register>(
@@ -46,63 +43,60 @@ pub fn plan_propose<R: Rota, G: Register>(
     process: u8,
     value: u16,
 ) -> Result<Step, Refusal>
-    ensures { result ≡ propose_plan (R.Rota.size board.now.rota) G.Register.room (moment board.now.table wire.now (signed_of (G.Register.pairs register.now))) process value }
+    ensures { result ≡ propose_plan (R.Rota.size board.now.rota) G.Register.ROOM (moment board.now.table wire.now (signed_of (G.Register.pairs register.now))) process value }
 {
-    let seat = seat_at(board, wire, process)?;
-    if seat.setting.committee.faulty.contains(process) {
-        return Err(Refusal::WrongSide);
-    }
+    let scene = Scene::of_correct(board, wire, process)?;
     if value == 0 {
         return Err(Refusal::FieldOutOfRange);
     }
-    let Phase::Idle = seat.process.certification.phase else {
+    if scene.seat.process.certification.phase != Phase::Idle {
         return Err(Refusal::Untimely);
-    };
-    find_room(&board.table, wire, register)?;
-    Ok(seat.proposes(value))
+    }
+    scene.find_room(register)?;
+    Ok(scene.seat.proposes(value))
 }
 
 // The timer is armed, and the clock has reached its deadline.
-fn is_due(process: &Process, timer: u8) -> bool
-    ensures { result ≡ is_due (deadline_of timer process.now) process.now.synchronizer.clock }
+fn is_due(process: &Process, timer: Timer) -> bool
+    ensures { result ≡ is_due (deadline_of (timer_number timer) process.now) process.now.synchronizer.clock }
 {
     let at = process.synchronizer;
-    let deadline = if timer == 1 { at.due } else { at.spread };
-    (0 < deadline) & (deadline <= at.clock)
+    let deadline = match timer {
+        Timer::View => at.due,
+        Timer::Spread => at.spread,
+    };
+    0 < deadline && deadline <= at.clock
 }
 
 // The view timer has expired, unless no epoch follows.
-fn expire_view<R: Rota>(board: &Board<R>, seat: &Seat) -> Result<Step, Refusal>
-    requires { seat.now.process.synchronizer.place ≤ seat.now.setting.committee.f + 1 }
-    ensures { result ≡ view_expiry_of (R.Rota.leader board.now.rota) seat.now.setting seat.now.process seat.now.number }
+fn expire_view<R: Rota>(rota: &R, scene: &Scene<'_>) -> Result<Step, Refusal>
+    ensures { result ≡ view_expiry (R.Rota.leader rota.now) scene.now.table.now scene.now.seat.number }
 {
+    let seat = scene.seat;
     let at = seat.process.synchronizer;
     let committee = seat.setting.committee;
     if at.place > committee.f && at.epoch == LAST_EPOCH {
         return Err(Refusal::LastEpoch);
     }
     let next = committee.view_at(at.epoch as u16, at.place + 1);
-    Ok(seat.on_view_expiry(board.rota.leader(next)))
+    Ok(seat.on_view_expiry(rota.leader(next)))
 }
 
-fn expire_spread<R: Rota>(board: &Board<R>, seat: &Seat) -> Step
-    ensures { result ≡ spread_expiry_of (R.Rota.leader board.now.rota) seat.now.setting seat.now.process seat.now.number }
+fn expire_spread<R: Rota>(rota: &R, scene: &Scene<'_>) -> Step
+    ensures { result ≡ spread_expiry (R.Rota.leader rota.now) scene.now.table.now scene.now.seat.number }
 {
-    let first = seat
-        .setting
-        .committee
-        .view_at(seat.process.synchronizer.epoch as u16, 1);
-    seat.on_spread_expiry(board.rota.leader(first))
+    let seat = scene.seat;
+    let epoch = seat.process.synchronizer.epoch as u16;
+    let first = seat.setting.committee.view_at(epoch, 1);
+    seat.on_spread_expiry(rota.leader(first))
 }
 
-fn expired<R: Rota>(board: &Board<R>, seat: &Seat, timer: u8) -> Result<Step, Refusal>
-    requires { seat.now.process.synchronizer.place ≤ seat.now.setting.committee.f + 1 }
-    ensures { result ≡ expiry_of (R.Rota.leader board.now.rota) seat.now.setting seat.now.process seat.now.number timer }
+fn expired<R: Rota>(rota: &R, scene: &Scene<'_>, timer: Timer) -> Result<Step, Refusal>
+    ensures { result ≡ expiry (R.Rota.leader rota.now) scene.now.table.now scene.now.seat.number (timer_number timer) }
 {
-    if timer == 1 {
-        expire_view(board, seat)
-    } else {
-        Ok(expire_spread(board, seat))
+    match timer {
+        Timer::View => expire_view(rota, scene),
+        Timer::Spread => Ok(expire_spread(rota, scene)),
     }
 }
 
@@ -114,20 +108,15 @@ pub fn plan_expire<R: Rota, G: Register>(
     process: u8,
     timer: u8,
 ) -> Result<Step, Refusal>
-    ensures { result ≡ expire_plan (R.Rota.leader board.now.rota) (R.Rota.size board.now.rota) G.Register.room (moment board.now.table wire.now (signed_of (G.Register.pairs register.now))) process timer }
+    ensures { result ≡ expire_plan (R.Rota.leader board.now.rota) (R.Rota.size board.now.rota) G.Register.ROOM (moment board.now.table wire.now (signed_of (G.Register.pairs register.now))) process timer }
 {
-    let seat = seat_at(board, wire, process)?;
-    if seat.setting.committee.faulty.contains(process) {
-        return Err(Refusal::WrongSide);
-    }
-    if timer < 1 || timer > 2 {
-        return Err(Refusal::FieldOutOfRange);
-    }
-    if !is_due(&seat.process, timer) {
+    let scene = Scene::of_correct(board, wire, process)?;
+    let timer = Timer::try_from(timer)?;
+    if !is_due(&scene.seat.process, timer) {
         return Err(Refusal::Untimely);
     }
-    find_room(&board.table, wire, register)?;
-    expired(board, &seat, timer)
+    scene.find_room(register)?;
+    expired(&board.rota, &scene, timer)
 }
 
 // A faulty process sends what it likes, as long as each field is in range.
@@ -138,18 +127,18 @@ pub fn plan_inject<R: Rota, G: Register>(
     process: u8,
     draft: Draft,
 ) -> Result<Step, Refusal>
-    ensures { result ≡ inject_plan (R.Rota.size board.now.rota) G.Register.room (moment board.now.table wire.now (signed_of (G.Register.pairs register.now))) process (draft_as draft) }
+    ensures { result ≡ inject_plan (R.Rota.size board.now.rota) G.Register.ROOM (moment board.now.table wire.now (signed_of (G.Register.pairs register.now))) process draft }
 {
-    let seat = seat_at(board, wire, process)?;
-    if !seat.setting.committee.faulty.contains(process) {
+    let scene = Scene::of(board, wire, process)?;
+    if !scene.is_faulty() {
         return Err(Refusal::WrongSide);
     }
     let Some(record) = draft.record(process) else {
         return Err(Refusal::FieldOutOfRange);
     };
-    if !record.in_range(&seat.setting.committee) {
+    if !record.in_range(&scene.seat.setting.committee) {
         return Err(Refusal::FieldOutOfRange);
     }
-    find_room(&board.table, wire, register)?;
-    Ok(Step::moves(seat.process, record))
+    scene.find_room(register)?;
+    Ok(Step::moves(scene.seat.process, record))
 }

@@ -7,9 +7,11 @@
 use Rattle.std.specs.Prelude.{ℕ, ◌+◌, List, [], ◌∷◌, ◌++◌, Err, Result}
 use Rattle.refusals.specs.declared.causes.Refusal.{Refusal}
 use Rattle.refusals.specs.declared.causes.Refusal.TheVariants.{OutOfPlace}
+use Rattle.committee.specs.Sets.{of_bits}
+use Rattle.protocol.specs.declared.draft.Draft.{Draft}
 use Rattle.protocol.specs.declared.step.Answer.{Answer}
 use Rattle.protocol.specs.Moments.{Moment, played, received, told}
-use Rattle.protocol.specs.Plans.{tick_plan, propose_plan, expire_plan, deliver_plan, inject_plan, Draft}
+use Rattle.protocol.specs.Plans.{tick_plan, propose_plan, expire_plan, deliver_plan, inject_plan}
 use Rattle.moves.specs.Orders.{Order, opens, proposes, ticks, expires, delivers, injects, PlacedOrder}
 use Rattle.player.specs.Outcomes.{outcome_of, line_of}
 
@@ -21,7 +23,7 @@ abbrev pub told_of : Result Answer Refusal → Moment → Told
 told_of r m = record { answer = r; after = m }
 
 abbrev pub drafted : ℕ → ℕ → ℕ → ℕ → ℕ → ℕ → Draft
-drafted kind to number value back vouch = record { kind = kind; to = to; number = number; value = value; back = back; vouch = vouch }
+drafted kind to number value back vouch = record { kind = kind; to = of_bits to; number = number; value = value; back = back; vouch = vouch }
 
 pub record Played : Type 0 where
   pub text : List ℕ

@@ -10,5 +10,3 @@ pub mod Plans
 pub mod Runs
 pub mod Ready
 pub mod Opening
-pub mod Drafts
-pub mod Rulings

@@ -11,7 +11,7 @@ use Rattle.std.specs.Prelude.{ℕ, ◌+◌, min, Bool, cond, not, ◌&&◌, ◌|
 use Rattle.refusals.specs.declared.causes.Refusal.{Refusal}
 use Rattle.refusals.specs.declared.causes.Refusal.TheVariants.{BoardOutOfRange, NoSuchProcess, WrongSide, FieldOutOfRange, NoSuchRecord, Untimely, ViewAhead, WireFull, RegisterFull, ClockAtEnd, LastEpoch}
 use Rattle.counting.specs.Counts.{count_to}
-use Rattle.committee.specs.Sets.{contains, of_bits}
+use Rattle.committee.specs.Sets.{contains}
 use Rattle.register.specs.Distinct.{seen}
 use Rattle.wire.specs.declared.kind.Kind.{Kind}
 use Rattle.wire.specs.declared.kind.Kind.TheVariants.{Disclose, AllowAny, Certificate, EpochCompleted, EnterEpoch, ViewChange, Prepare, PrepareVote, Precommit, PrecommitVote, Commit, CommitVote, Decide}
@@ -29,6 +29,7 @@ use Rattle.protocol.specs.declared.process.Mark.{Mark}
 use Rattle.protocol.specs.declared.process.Process.{Process}
 use Rattle.protocol.specs.declared.board.Setting.{Setting}
 use Rattle.protocol.specs.declared.board.Table.{Table}
+use Rattle.protocol.specs.declared.draft.Draft.{Draft}
 use Rattle.protocol.specs.declared.step.Step.{Step}
 use Rattle.protocol.specs.Processes.{blank_process, idle, running, mark, synchronizer_of, with_synchronizer}
 use Rattle.protocol.specs.Ranges.{between, last_tick, table_fits, wire_fits}
@@ -105,17 +106,20 @@ deadline_of timer q = cond (timer == 1) q.synchronizer.due q.synchronizer.spread
 abbrev pub at_end : Setting → Process → Bool
 at_end s q = nat_le (last_place s) q.synchronizer.place && q.synchronizer.epoch == 65535
 
-abbrev pub view_expiry : (ℕ → ℕ) → Moment → ℕ → Result Step Refusal
-view_expiry leads m p =
-    let s = m.table.setting in
-    let q = seat m.table p in
+abbrev pub view_expiry : (ℕ → ℕ) → Table → ℕ → Result Step Refusal
+view_expiry leads t p =
+    let s = t.setting in
+    let q = seat t p in
     cond (at_end s q) (Err LastEpoch) (Ok (on_view_expiry s q p (leads (view_here s q (q.synchronizer.place + 1)))))
 
-abbrev pub spread_expiry : (ℕ → ℕ) → Moment → ℕ → Result Step Refusal
-spread_expiry leads m p =
-    let s = m.table.setting in
-    let q = seat m.table p in
-    Ok (on_spread_expiry s q p (leads (view_here s q 1)))
+abbrev pub spread_expiry : (ℕ → ℕ) → Table → ℕ → Step
+spread_expiry leads t p =
+    let s = t.setting in
+    let q = seat t p in
+    on_spread_expiry s q p (leads (view_here s q 1))
+
+abbrev pub expiry : (ℕ → ℕ) → Table → ℕ → ℕ → Result Step Refusal
+expiry leads t p timer = cond (timer == 1) (view_expiry leads t p) (Ok (spread_expiry leads t p))
 
 abbrev pub expire_plan : (ℕ → ℕ) → ℕ → ℕ → Moment → ℕ → ℕ → Result Step Refusal
 expire_plan leads n room m p timer =
@@ -124,7 +128,7 @@ expire_plan leads n room m p timer =
     (cond (is_faulty m p) (Err WrongSide)
     (cond (not (between 1 timer 2)) (Err FieldOutOfRange)
     (cond (not (is_due (deadline_of timer q) q.synchronizer.clock)) (Err Untimely)
-    (roomy room m (cond (timer == 1) (view_expiry leads m p) (spread_expiry leads m p))))))
+    (roomy room m (expiry leads m.table p timer)))))
 
 -- ---- deliver
 
@@ -144,27 +148,39 @@ best_from h i j (r ∷ rs) b = best_from h i (j + 1) rs (better (is_heeded h r |
 abbrev pub best_backing : Heeded → ℕ → List Record → Mark
 best_backing h i ws = best_from h i 0 ws (mark 0 0)
 
+-- the certificate that a record claims holds by what is signed
+abbrev pub holding : Moment → Record → Bool
+holding m r = claim_holds (claim_of m.table.setting.committee r) m.signed.has
+
+-- from how many senders process p has heeded such records, the record's own included
+abbrev pub heard_from : Moment → ℕ → Record → Option ℕ → ℕ
+heard_from m p r x = from_senders (asked p r x) r.sender (used_of m)
+
 module _ (leads : ℕ → ℕ) (m : Moment) (p i : ℕ) where
+  abbrev s : Setting
+  s = m.table.setting
+
+  abbrev q : Process
+  q = seat m.table p
+
   abbrev pub voted : Ballot → Record → Step
-  voted b r = on_vote m.table.setting (seat m.table p) p r b (leads r.number == p) (from_senders (asked p r (Some r.value)) r.sender (used_of m))
+  voted b r = on_vote s q p r b (leads r.number == p) (heard_from m p r (Some r.value))
 
   abbrev pub ruled_by : Kind → Record → Step
-  ruled_by Disclose r =
-      on_disclose m.table.setting (seat m.table p) p r (from_senders (asked p r (Some r.value)) r.sender (used_of m)) (from_senders (asked p r None) r.sender (used_of m)) (leads 1)
-  ruled_by AllowAny r = on_allow_any m.table.setting (seat m.table p) p (from_senders (asked p r None) r.sender (used_of m)) (leads 1)
-  ruled_by Certificate r = on_certificate m.table.setting (seat m.table p) p r (claim_holds (claim_of m.table.setting.committee r) m.signed.has) (leads 1)
-  ruled_by EpochCompleted r = on_epoch_completed m.table.setting (seat m.table p) r (from_senders (asked p r None) r.sender (used_of m))
-  ruled_by EnterEpoch r = on_enter_epoch m.table.setting (seat m.table p) r (claim_holds (claim_of m.table.setting.committee r) m.signed.has)
+  ruled_by Disclose r = on_disclose s q p r (heard_from m p r (Some r.value)) (heard_from m p r None) (leads 1)
+  ruled_by AllowAny r = on_allow_any s q p (heard_from m p r None) (leads 1)
+  ruled_by Certificate r = on_certificate s q p r (holding m r) (leads 1)
+  ruled_by EpochCompleted r = on_epoch_completed s q r (heard_from m p r None)
+  ruled_by EnterEpoch r = on_enter_epoch s q r (holding m r)
   ruled_by ViewChange r =
-      on_view_change m.table.setting (seat m.table p) p r (leads r.number == p) (claim_holds (claim_of m.table.setting.committee r) m.signed.has)
-      (from_senders (asked p r None) r.sender (used_of m)) (best_backing (asked p r None) i (used_of m))
-  ruled_by Prepare r = on_prepare (seat m.table p) p r (claim_holds (claim_of m.table.setting.committee r) m.signed.has) (leads r.number)
+      on_view_change s q p r (leads r.number == p) (holding m r) (heard_from m p r None) (best_backing (asked p r None) i (used_of m))
+  ruled_by Prepare r = on_prepare q p r (holding m r) (leads r.number)
   ruled_by PrepareVote r = voted ballot.Prepare r
-  ruled_by Precommit r = on_precommit (seat m.table p) p r (claim_holds (claim_of m.table.setting.committee r) m.signed.has) (leads r.number)
+  ruled_by Precommit r = on_precommit q p r (holding m r) (leads r.number)
   ruled_by PrecommitVote r = voted ballot.Precommit r
-  ruled_by Commit r = on_commit (seat m.table p) p r (claim_holds (claim_of m.table.setting.committee r) m.signed.has) (leads r.number)
+  ruled_by Commit r = on_commit q p r (holding m r) (leads r.number)
   ruled_by CommitVote r = voted ballot.Commit r
-  ruled_by Decide r = on_decide (seat m.table p) r (claim_holds (claim_of m.table.setting.committee r) m.signed.has)
+  ruled_by Decide r = on_decide q r (holding m r)
 
   abbrev pub ruled : Record → Step
   ruled r = ruled_by r.kind r
@@ -177,6 +193,10 @@ untimely k s = cond (nat_le (kind_number k) 3) (idle s) (not (running s))
 abbrev pub of_one_view : Kind → Bool
 of_one_view k = nat_le 6 (kind_number k) && nat_le (kind_number k) 12
 
+-- of a view that the process has not reached
+abbrev pub ahead : Process → Record → Bool
+ahead q r = of_one_view r.kind && nat_lt q.core.view r.number
+
 -- kinds 1 to 3 to a running process, kinds 6 to 12 of an earlier view
 abbrev pub stale : Process → Record → Bool
 stale q r = (nat_le (kind_number r.kind) 3 && running q.certification.phase) || (of_one_view r.kind && nat_lt r.number q.core.view)
@@ -184,35 +204,31 @@ stale q r = (nat_le (kind_number r.kind) 3 && running q.certification.phase) || 
 abbrev pub undeliverable : Moment → ℕ → ℕ → Bool
 undeliverable m p i = let r = record_at m.wire i in nat_le m.table.used i || (not (contains r.to p) || contains r.got p)
 
--- what stands in the way of a delivery, and else the step z
-abbrev pub admitted : ℕ → ℕ → Moment → ℕ → ℕ → Step → Result Step Refusal
-admitted n room m p i z =
+-- what a correct process makes of the record at place i: the first cause that stands in the way, and else the step z
+abbrev pub taken : ℕ → Moment → ℕ → ℕ → Step → Result Step Refusal
+taken room m p i z =
     let q = seat m.table p in
     let r = record_at m.wire i in
+    cond (untimely r.kind q.certification.phase) (Err Untimely)
+    (cond (ahead q r) (Err ViewAhead)
+    (roomy room m (cond (stale q r) (Ok (drops q)) (Ok z))))
+
+-- the same of any process; a faulty one drops what is delivered to it
+abbrev pub admitted : ℕ → ℕ → Moment → ℕ → ℕ → Step → Result Step Refusal
+admitted n room m p i z =
     known n m p
     (cond (undeliverable m p i) (Err NoSuchRecord)
-    (cond (is_faulty m p) (Ok (drops q))
-    (cond (untimely r.kind q.certification.phase) (Err Untimely)
-    (cond (of_one_view r.kind && nat_lt q.core.view r.number) (Err ViewAhead)
-    (roomy room m (cond (stale q r) (Ok (drops q)) (Ok z)))))))
+    (cond (is_faulty m p) (Ok (drops (seat m.table p))) (taken room m p i z)))
 
 abbrev pub deliver_plan : (ℕ → ℕ) → ℕ → ℕ → Moment → ℕ → ℕ → Result Step Refusal
 deliver_plan leads n room m p i = admitted n room m p i (ruled leads m p i (record_at m.wire i))
 
 -- ---- inject
 
-pub record Draft : Type 0 where
-  pub kind : ℕ
-  pub to : ℕ
-  pub number : ℕ
-  pub value : ℕ
-  pub back : ℕ
-  pub vouch : ℕ
-
 abbrev pub drafted : ℕ → Draft → Option Kind → Option Vouch → Option Record
 drafted p d None w = None
 drafted p d (Some k) None = None
-drafted p d (Some k) (Some w) = Some (sent (of_bits d.to) p k d.number d.value d.back w)
+drafted p d (Some k) (Some w) = Some (sent d.to p k d.number d.value d.back w)
 
 abbrev pub draft_of : ℕ → Draft → Option Record
 draft_of p d = drafted p d (kind_of d.kind) (vouch_of d.vouch)

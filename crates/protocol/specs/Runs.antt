@@ -13,12 +13,13 @@ use Rattle.committee.specs.declared.rota.Rota.{Ghosts as RotaMeans}
 use Rattle.register.specs.declared.ledger.Register.{Ghosts as RegisterMeans}
 use Rattle.wire.specs.declared.record.Record.{Record}
 use Rattle.protocol.specs.declared.board.Board.{Board}
+use Rattle.protocol.specs.declared.draft.Draft.{Draft}
 use Rattle.protocol.specs.declared.step.Step.{Step}
 use Rattle.protocol.specs.declared.step.Answer.{Answer}
 use Rattle.protocol.specs.Processes.{blank_process}
 use Rattle.protocol.specs.Ranges.{setting_fits}
 use Rattle.protocol.specs.Moments.{Moment, moment, signed_of, played, received, told}
-use Rattle.protocol.specs.Plans.{Draft, tick_plan, propose_plan, expire_plan, deliver_plan, inject_plan}
+use Rattle.protocol.specs.Plans.{tick_plan, propose_plan, expire_plan, deliver_plan, inject_plan}
 
 pub record Sitting (R G : Type 0) : Type 0 where
   pub board : Board R

@@ -1,5 +1,6 @@
 -- What can be asked of a board, and what is answered. Assumes nothing.
 --   in_reach          the board is in range, or that is the cause; then the rest
+--   charge c e r      what a record adds to the words of epoch e; one that belongs to no epoch adds nothing
 --   words_answer      the words of an epoch; epoch 0 is certification
 --   line_answer       the printed line of a used record
 --   leader_answer     the leader of a view
@@ -17,11 +18,15 @@ use Rattle.wire.specs.Lines.{line_of}
 use Rattle.protocol.specs.declared.board.Table.{Table}
 use Rattle.protocol.specs.declared.process.Process.{Process}
 use Rattle.protocol.specs.Moments.{record_at}
-use Rattle.agreement.specs.Words.{words_in}
+use Rattle.wire.specs.Words.{words_of, no_epoch}
+use Rattle.agreement.specs.Words.{is_charged, words_in}
 use Rattle.admission.specs.Seating.{in_order}
 
 abbrev pub in_reach : {A : Type 0} → ℕ → Table → List Record → Result A Refusal → Result A Refusal
 in_reach n t w rest = cond (not (in_order n t w)) (Err BoardOutOfRange) rest
+
+abbrev pub charge : Committee → ℕ → Record → ℕ
+charge c e r = cond (not (no_epoch r) && is_charged c e r) (words_of r) 0
 
 abbrev pub words_answer : ℕ → Table → List Record → ℕ → Result ℕ Refusal
 words_answer n t w e = in_reach n t w (cond (nat_lt 65535 e) (Err FieldOutOfRange) (Ok (words_in t.setting.committee e (take t.used w))))

@@ -1,10 +1,8 @@
 // The words of an epoch, the line of a record, and who leads a view and where it stands.
-ghost use Rattle.std.specs.Prelude.{◌≡◌, ◌≤◌, true, length, if◌then◌else◌};
-ghost use Rattle.counting.specs.Counts.{every};
-ghost use Rattle.wire.specs.Ranges.{in_range};
-ghost use Rattle.wire.specs.Words.{words_of};
-ghost use Rattle.agreement.specs.Words.{is_charged, words_in};
-ghost use Rattle.queries.specs.Asking.{words_answer, line_answer, leader_answer, place_answer};
+ghost use Rattle.std.specs.Prelude.{◌≡◌, ◌≤◌, not, ◌&&◌, length, sum_by};
+ghost use Rattle.wire.specs.Words.{no_epoch};
+ghost use Rattle.agreement.specs.Words.{is_charged};
+ghost use Rattle.queries.specs.Asking.{charge, words_answer, line_answer, leader_answer, place_answer};
 
 use admission::in_order;
 use committee::{Committee, Rota};
@@ -15,61 +13,51 @@ use wire::Record;
 
 // A correct process sent the record, and it belongs to the epoch.
 fn is_charged(sent: &Record, committee: &Committee, epoch: u32) -> bool
-    requires { in_range committee.now.n sent.now ≡ true }
-    ensures { result ≡ is_charged committee.now epoch sent.now }
+    ensures { result ≡ (not (no_epoch sent.now) && is_charged committee.now epoch sent.now) }
 {
     match sent.epoch(committee) {
-        Ok(spent_on) => !committee.faulty.contains(sent.sender) & (spent_on == epoch),
+        Ok(spent_on) => !committee.faulty.contains(sent.sender) && spent_on == epoch,
         Err(_) => false,
     }
 }
 
 // What the record adds to the words of the epoch.
 fn charge(sent: &Record, committee: &Committee, epoch: u32) -> u32
-    requires { in_range committee.now.n sent.now ≡ true }
-    ensures value { result ≡ (if is_charged committee.now epoch sent.now then words_of sent.now else 0) }
-    ensures few { result ≤ 31 }
+    ensures value { result ≡ charge committee.now epoch sent.now }
+    ensures few { result ≤ 32 }
 {
     if is_charged(sent, committee, epoch) {
-        sent.words()
+        // Its words, counted here since the bits of a number bound the sum.
+        sent.to.bits.count_ones()
     } else {
         0
     }
 }
 
-fn words_in(used: &[Record], committee: &Committee, epoch: u32) -> u32
-    requires fits { every (in_range committee.now.n) used.now ≡ true }
-    requires few { length used.now ≤ 65535 }
-    ensures { result ≡ words_in committee.now epoch used.now }
+fn charged(used: &[Record], committee: &Committee, epoch: u32) -> u32
+    requires { length used.now ≤ 65535 }
+    ensures { result ≡ sum_by (charge committee.now epoch) used.now }
 {
-    let mut sum = 0;
-    for sent in used {
-        sum += charge(sent, committee, epoch);
-    }
-    sum
+    used.iter().map(|sent| charge(sent, committee, epoch)).sum()
 }
 
 // The words that correct processes have spent on an epoch; epoch 0 is certification.
 pub fn words<R: Rota>(board: &Board<R>, wire: &[Record], epoch: u32) -> Result<u32, Refusal>
     ensures { result ≡ words_answer (R.Rota.size board.now.rota) board.now.table wire.now epoch }
 {
-    if !in_order(board, wire) {
-        return Err(Refusal::BoardOutOfRange);
-    }
+    in_order(board, wire)?;
     if epoch > LAST_EPOCH {
         return Err(Refusal::FieldOutOfRange);
     }
     let used = &wire[0..usize::from(board.table.used)];
-    Ok(words_in(used, &board.table.setting.committee, epoch))
+    Ok(charged(used, &board.table.setting.committee, epoch))
 }
 
 // The printed line of a record.
 pub fn line<R: Rota>(board: &Board<R>, wire: &[Record], index: u16) -> Result<[u8; 48], Refusal>
     ensures { result ≡ line_answer (R.Rota.size board.now.rota) board.now.table wire.now index }
 {
-    if !in_order(board, wire) {
-        return Err(Refusal::BoardOutOfRange);
-    }
+    in_order(board, wire)?;
     if index >= board.table.used {
         return Err(Refusal::NoSuchRecord);
     }
@@ -79,9 +67,7 @@ pub fn line<R: Rota>(board: &Board<R>, wire: &[Record], index: u16) -> Result<[u
 pub fn leader<R: Rota>(board: &Board<R>, wire: &[Record], view: u32) -> Result<u8, Refusal>
     ensures { result ≡ leader_answer (R.Rota.leader board.now.rota) (R.Rota.size board.now.rota) board.now.table wire.now view }
 {
-    if !in_order(board, wire) {
-        return Err(Refusal::BoardOutOfRange);
-    }
+    in_order(board, wire)?;
     let (_epoch, _place) = board.table.setting.committee.epoch_place(view)?;
     Ok(board.rota.leader(view))
 }
@@ -90,9 +76,7 @@ pub fn leader<R: Rota>(board: &Board<R>, wire: &[Record], view: u32) -> Result<u
 pub fn place<R: Rota>(board: &Board<R>, wire: &[Record], view: u32) -> Result<(u32, u8), Refusal>
     ensures { result ≡ place_answer (R.Rota.size board.now.rota) board.now.table wire.now view }
 {
-    if !in_order(board, wire) {
-        return Err(Refusal::BoardOutOfRange);
-    }
+    in_order(board, wire)?;
     let council = board.table.setting.committee;
     council.epoch_place(view)
 }

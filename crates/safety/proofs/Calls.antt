@@ -10,17 +10,17 @@ use Rattle.wire.specs.Kinds.{kind_of, vouch_of}
 use Rattle.wire.specs.Ranges.{in_range}
 use Rattle.protocol.specs.declared.process.Phase.{Phase}
 use Rattle.protocol.specs.declared.process.Phase.TheVariants.{Idle, Certifying, Running}
+use Rattle.protocol.specs.declared.draft.Draft.{Draft}
 use Rattle.protocol.specs.declared.process.Process.{Process}
 use Rattle.protocol.specs.declared.step.Step.{Step}
 use Rattle.protocol.specs.Processes.{idle, running}
 use Rattle.protocol.specs.Ranges.{between, last_tick, process_fits}
-use Rattle.committee.specs.Sets.{of_bits}
 use Rattle.protocol.specs.Sending.{sent, to_all, view_change}
 use Rattle.protocol.specs.Steps.{moves_on, moves}
 use Rattle.protocol.specs.Certifying.{proposes}
 use Rattle.protocol.specs.Synchronizing.{last_place, view_here, entered, timer_off, spread_off, on_spread_expiry}
 use Rattle.protocol.specs.Moments.{Moment, played}
-use Rattle.protocol.specs.Plans.{seat, used_of, is_faulty, later, tick_plan, propose_plan, is_due, deadline_of, at_end, view_expiry, spread_expiry, expire_plan, Draft, drafted, injecting, inject_plan}
+use Rattle.protocol.specs.Plans.{seat, used_of, is_faulty, later, tick_plan, propose_plan, is_due, deadline_of, at_end, view_expiry, spread_expiry, expire_plan, drafted, injecting, inject_plan}
 use Rattle.agreement.specs.Wires.{Wire, Correct}
 use Rattle.agreement.proofs.Records.{formed}
 use Rattle.safety.specs.Ties.{Tied, Capped}
@@ -94,7 +94,7 @@ module _ (leader : ℕ → ℕ) (m : Moment) (p : ℕ) (k : Kept leader m) (memb
   busy : (ws : Wire) (u : Process) → running u.certification.phase ≡ true → Correct c p → Capped c ws p u
   busy ws u h _ rests = absurd (both_ways _ rests h)
 
-  pub view_expiry_kept : 1 ≤ q.synchronizer.due → Kept leader (played (view_expiry leader m p) p m)
+  pub view_expiry_kept : 1 ≤ q.synchronizer.due → Kept leader (played (view_expiry leader m.table p) p m)
   view_expiry_kept on =
       let P : Result Step Refusal → Type 0 = λ y. Kept leader (played y p m) in
       let S : Step → Type 0 = λ z. Kept leader (played (Ok z) p m) in
@@ -120,7 +120,7 @@ module _ (leader : ℕ → ℕ) (m : Moment) (p : ℕ) (k : Kept leader m) (memb
       )
       (busy (used_of m) (timer_off q) going) free))
 
-  pub spread_expiry_kept : 1 ≤ q.synchronizer.spread → Kept leader (played (spread_expiry leader m p) p m)
+  pub spread_expiry_kept : 1 ≤ q.synchronizer.spread → Kept leader (played (Ok (spread_expiry leader m.table p)) p m)
   spread_expiry_kept on =
       let s = m.table.setting in
       let going = runs q.synchronizer.spread on (λ e. (waits_stand c.f q fits e).spread) in
@@ -171,7 +171,7 @@ inject_kept leader n room m p d k =
     go never member (Some j) (Some w) =
         let P : Result Step Refusal → Type 0 = λ y. Kept leader (played y p m) in
         let c = committee_of m in
-        let r = sent (of_bits d.to) p j d.number d.value d.back w in
+        let r = sent d.to p j d.number d.value d.back w in
         cond_both (not (in_range c.n r)) _ _ P (λ _. k)
         (λ e. roomy-kept P room m _ (λ _. k)
         (λ free. carry leader m p (moves (seat m.table p) r) k member

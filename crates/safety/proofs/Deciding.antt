@@ -13,8 +13,8 @@ use Rattle.protocol.specs.declared.ballot.Ballot.{Ballot}
 use Rattle.protocol.specs.declared.ballot.Ballot.TheVariants as ballot
 use Rattle.protocol.specs.declared.process.Mark.{Mark}
 use Rattle.protocol.specs.declared.board.Setting.{Setting}
+use Rattle.protocol.specs.declared.draft.Draft.{Draft}
 use Rattle.committee.specs.Thresholds.{quorum_of, weak_quorum_of, disclosure_quorum_of}
-use Rattle.committee.specs.Sets.{of_bits}
 use Rattle.wire.specs.Ranges.{in_range}
 use Rattle.protocol.specs.Processes.{blank_process, idle}
 use Rattle.protocol.specs.Ranges.{between, last_tick}
@@ -25,7 +25,7 @@ use Rattle.protocol.specs.Voting.{unlocked, phase_of, on_view_change, on_prepare
 use Rattle.protocol.specs.Steps.{is_heed}
 use Rattle.protocol.specs.Moments.{Moment, moment, seated, noted, done, played, received, marked, record_at, no_record}
 use Rattle.wire.specs.Claims.{claim_of, claim_holds}
-use Rattle.protocol.specs.Plans.{seat, used_of, asked, from_senders, best_backing, is_faulty, untimely, of_one_view, stale, undeliverable, at_end, is_due, deadline_of, tick_plan, propose_plan, expire_plan, deliver_plan, inject_plan, injecting, drafted, Draft, ruled_by}
+use Rattle.protocol.specs.Plans.{seat, used_of, asked, from_senders, best_backing, is_faulty, untimely, of_one_view, stale, undeliverable, at_end, is_due, deadline_of, tick_plan, propose_plan, expire_plan, deliver_plan, inject_plan, injecting, drafted, ruled_by}
 use Rattle.safety.proofs.Moves.{known_kept, roomy-kept}
 
 -- a step leaves the decision, unless there was none
@@ -167,7 +167,7 @@ inject_leaves n room m p d =
     go (Some j) None = tt
     go (Some j) (Some w) =
         let P : Result Step Refusal → Type 0 = PlanLeaves (seat m.table p) in
-        let r = sent (of_bits d.to) p j d.number d.value d.back w in
+        let r = sent d.to p j d.number d.value d.back w in
         cond_both (not (in_range m.table.setting.committee.n r)) _ _ P (λ _. tt) (λ _. roomy-kept P room m _ (λ _. tt) (λ _. record { stays = λ _. refl }))
 
 -- ---- what a move makes of the seats

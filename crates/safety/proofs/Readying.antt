@@ -2,7 +2,6 @@
 use Rattle.std.proofs.Common.{◌≡◌, ℕ, ◌+◌, ◌<◌, min, Bool, false, not, ◌&&◌, eqb, ltb, leb, length, Some, None, Ok, Err, Option, Result, refl, arith, length-set}
 use Rattle.std.proofs.lemmas.Bool.{cond_both, or_parts, leb-false, ltb-false, eqb-false}
 use Rattle.refusals.specs.declared.causes.Refusal.{Refusal}
-use Rattle.committee.specs.Sets.{of_bits}
 use Rattle.committee.specs.Thresholds.{quorum_of, weak_quorum_of, disclosure_quorum_of}
 use Rattle.wire.specs.declared.kind.Kind.{Kind}
 use Rattle.wire.specs.declared.kind.Kind.TheVariants.{Disclose, AllowAny, Certificate, EpochCompleted, EnterEpoch, ViewChange, Prepare, PrepareVote, Precommit, PrecommitVote, Commit, CommitVote, Decide}
@@ -14,6 +13,7 @@ use Rattle.wire.specs.Ranges.{in_range}
 use Rattle.protocol.specs.declared.ballot.Ballot.{Ballot}
 use Rattle.protocol.specs.declared.ballot.Ballot.TheVariants as ballot
 use Rattle.protocol.specs.declared.board.Setting.{Setting}
+use Rattle.protocol.specs.declared.draft.Draft.{Draft}
 use Rattle.protocol.specs.declared.process.Mark.{Mark}
 use Rattle.protocol.specs.declared.process.Process.{Process}
 use Rattle.protocol.specs.declared.step.Step.{Step}
@@ -24,8 +24,7 @@ use Rattle.protocol.specs.Certifying.{on_disclose, on_allow_any, on_certificate}
 use Rattle.protocol.specs.Synchronizing.{last_place, view_here, on_view_expiry, on_epoch_completed, on_enter_epoch}
 use Rattle.protocol.specs.Voting.{unlocked, phase_of, on_view_change, on_prepare, on_precommit, on_commit, on_decide, on_vote}
 use Rattle.protocol.specs.Moments.{Moment, moment, delivered, marked, record_at}
-use Rattle.protocol.specs.Plans.{seat, used_of, crowded, full, roomy, asked, from_senders, best_backing, is_faulty, untimely, of_one_view, stale, undeliverable, at_end, is_due, deadline_of, tick_plan, propose_plan, expire_plan, deliver_plan, inject_plan, injecting, drafted, Draft, ruled_by}
-use Rattle.protocol.specs.Rulings.{ahead}
+use Rattle.protocol.specs.Plans.{seat, used_of, ahead, crowded, full, roomy, asked, from_senders, best_backing, is_faulty, untimely, of_one_view, stale, undeliverable, at_end, is_due, deadline_of, tick_plan, propose_plan, expire_plan, deliver_plan, inject_plan, injecting, drafted, ruled_by}
 use Rattle.protocol.specs.Ready.{Free, Ready, Doable}
 use Rattle.safety.specs.Kept.{committee_of}
 use Rattle.safety.proofs.Fitting.{used_fits}
@@ -172,7 +171,7 @@ module _ (n room : ℕ) (m : Moment) (p : ℕ) where
       go l None w = tt
       go l (Some j) None = tt
       go l (Some j) (Some w) =
-          let r = sent (of_bits d.to) p j d.number d.value d.back w in
+          let r = sent d.to p j d.number d.value d.back w in
           cond_both (not (in_range m.table.setting.committee.n r)) _ _ P (λ _. tt) (λ _. roomy-free P room m _ (λ _. tt) (λ free. (l, (free, refl))))
 
 -- ---- where a delivered record stands

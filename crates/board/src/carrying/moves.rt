@@ -1,6 +1,5 @@
 // The five moves on a board. Each is one function of the sitting, the board with its wire and its register: contracts say
 // which board, wire, register and answer follow, and that a sitting that is a run goes on as one, with all that is promised.
-ghost use Rattle.protocol.specs.Drafts.{draft_as};
 ghost use Rattle.protocol.specs.Runs.{sitting, Ticks, Proposes, Expires, Delivers, Injects};
 ghost use Rattle.safety.specs.Promises.{Keeps};
 
@@ -11,21 +10,6 @@ use protocol::{Answer, Board, Draft};
 use refusals::Refusal;
 use register::Register;
 use wire::Record;
-
-fn proposing<R: Rota, G: Register>(
-    board: &mut Board<R>,
-    wire: &mut [Record],
-    register: &mut G,
-    process: u8,
-    value: u16,
-) -> Result<Answer, Refusal>
-    ensures exact { Proposes R.Rota G.Register (sitting board.old wire.old register.old) process value (sitting board.new wire.new register.new) result }
-    ensures keeps { Keeps R.Rota G.Register (sitting board.old wire.old register.old) (sitting board.new wire.new register.new) }
-{
-    let step = plan_propose(board, wire, register, process, value)?;
-    carry_out(&mut board.table, wire, register, process, &step);
-    Ok(step.answer)
-}
 
 // The process proposes a value, and certification starts.
 pub fn propose<R: Rota, G: Register>(
@@ -38,20 +22,7 @@ pub fn propose<R: Rota, G: Register>(
     ensures exact { Proposes R.Rota G.Register (sitting board.old wire.old register.old) process value (sitting board.new wire.new register.new) result }
     ensures keeps { Keeps R.Rota G.Register (sitting board.old wire.old register.old) (sitting board.new wire.new register.new) }
 {
-    proposing(board, wire, register, process, value)
-}
-
-fn ticking<R: Rota, G: Register>(
-    board: &mut Board<R>,
-    wire: &mut [Record],
-    register: &mut G,
-    process: u8,
-    ticks: u32,
-) -> Result<Answer, Refusal>
-    ensures exact { Ticks R.Rota G.Register (sitting board.old wire.old register.old) process ticks (sitting board.new wire.new register.new) result }
-    ensures keeps { Keeps R.Rota G.Register (sitting board.old wire.old register.old) (sitting board.new wire.new register.new) }
-{
-    let step = plan_tick(board, wire, register, process, ticks)?;
+    let step = plan_propose(board, wire, register, process, value)?;
     carry_out(&mut board.table, wire, register, process, &step);
     Ok(step.answer)
 }
@@ -67,20 +38,7 @@ pub fn tick<R: Rota, G: Register>(
     ensures exact { Ticks R.Rota G.Register (sitting board.old wire.old register.old) process ticks (sitting board.new wire.new register.new) result }
     ensures keeps { Keeps R.Rota G.Register (sitting board.old wire.old register.old) (sitting board.new wire.new register.new) }
 {
-    ticking(board, wire, register, process, ticks)
-}
-
-fn expiring<R: Rota, G: Register>(
-    board: &mut Board<R>,
-    wire: &mut [Record],
-    register: &mut G,
-    process: u8,
-    timer: u8,
-) -> Result<Answer, Refusal>
-    ensures exact { Expires R.Rota G.Register (sitting board.old wire.old register.old) process timer (sitting board.new wire.new register.new) result }
-    ensures keeps { Keeps R.Rota G.Register (sitting board.old wire.old register.old) (sitting board.new wire.new register.new) }
-{
-    let step = plan_expire(board, wire, register, process, timer)?;
+    let step = plan_tick(board, wire, register, process, ticks)?;
     carry_out(&mut board.table, wire, register, process, &step);
     Ok(step.answer)
 }
@@ -96,21 +54,7 @@ pub fn expire<R: Rota, G: Register>(
     ensures exact { Expires R.Rota G.Register (sitting board.old wire.old register.old) process timer (sitting board.new wire.new register.new) result }
     ensures keeps { Keeps R.Rota G.Register (sitting board.old wire.old register.old) (sitting board.new wire.new register.new) }
 {
-    expiring(board, wire, register, process, timer)
-}
-
-fn delivering<R: Rota, G: Register>(
-    board: &mut Board<R>,
-    wire: &mut [Record],
-    register: &mut G,
-    index: u16,
-    process: u8,
-) -> Result<Answer, Refusal>
-    ensures exact { Delivers R.Rota G.Register (sitting board.old wire.old register.old) index process (sitting board.new wire.new register.new) result }
-    ensures keeps { Keeps R.Rota G.Register (sitting board.old wire.old register.old) (sitting board.new wire.new register.new) }
-{
-    let step = plan_deliver(board, wire, register, index, process)?;
-    mark(wire, index, process, step.heed);
+    let step = plan_expire(board, wire, register, process, timer)?;
     carry_out(&mut board.table, wire, register, process, &step);
     Ok(step.answer)
 }
@@ -126,20 +70,8 @@ pub fn deliver<R: Rota, G: Register>(
     ensures exact { Delivers R.Rota G.Register (sitting board.old wire.old register.old) index process (sitting board.new wire.new register.new) result }
     ensures keeps { Keeps R.Rota G.Register (sitting board.old wire.old register.old) (sitting board.new wire.new register.new) }
 {
-    delivering(board, wire, register, index, process)
-}
-
-fn injecting<R: Rota, G: Register>(
-    board: &mut Board<R>,
-    wire: &mut [Record],
-    register: &mut G,
-    process: u8,
-    draft: Draft,
-) -> Result<Answer, Refusal>
-    ensures exact { Injects R.Rota G.Register (sitting board.old wire.old register.old) process (draft_as draft) (sitting board.new wire.new register.new) result }
-    ensures keeps { Keeps R.Rota G.Register (sitting board.old wire.old register.old) (sitting board.new wire.new register.new) }
-{
-    let step = plan_inject(board, wire, register, process, draft)?;
+    let step = plan_deliver(board, wire, register, index, process)?;
+    mark(wire, index, process, step.answer.is_heed());
     carry_out(&mut board.table, wire, register, process, &step);
     Ok(step.answer)
 }
@@ -152,8 +84,10 @@ pub fn inject<R: Rota, G: Register>(
     process: u8,
     draft: Draft,
 ) -> Result<Answer, Refusal>
-    ensures exact { Injects R.Rota G.Register (sitting board.old wire.old register.old) process (draft_as draft) (sitting board.new wire.new register.new) result }
+    ensures exact { Injects R.Rota G.Register (sitting board.old wire.old register.old) process draft (sitting board.new wire.new register.new) result }
     ensures keeps { Keeps R.Rota G.Register (sitting board.old wire.old register.old) (sitting board.new wire.new register.new) }
 {
-    injecting(board, wire, register, process, draft)
+    let step = plan_inject(board, wire, register, process, draft)?;
+    carry_out(&mut board.table, wire, register, process, &step);
+    Ok(step.answer)
 }

@@ -1,6 +1,5 @@
 // What a faulty process sends.
 ghost use Rattle.std.specs.Prelude.{◌≡◌};
-ghost use Rattle.protocol.specs.Drafts.{draft_as};
 ghost use Rattle.protocol.specs.Plans.{draft_of};
 
 use super::new_record;
@@ -10,7 +9,7 @@ use wire::{Kind, Record, Vouch};
 impl Draft {
     // The record that is drafted; none where the kind or the vouch is no such number.
     pub fn record(&self, sender: u8) -> Option<Record>
-        ensures { result ≡ draft_of sender (draft_as self.now) }
+        ensures { result ≡ draft_of sender self.now }
     {
         let kind = Kind::try_from(self.kind).ok()?;
         let vouch = Vouch::try_from(self.vouch).ok()?;

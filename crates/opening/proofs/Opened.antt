@@ -1,0 +1,14 @@
+-- An opened board is a new one, and what every run promises holds of it. Assumes nothing.
+use Rattle.std.proofs.Common.{ℕ, ◌<◌, length, Ok, Option}
+use Rattle.committee.specs.declared.rota.Rota.{Ghosts as RotaMeans}
+use Rattle.committee.specs.declared.sets.ProcessSet.{ProcessSet}
+use Rattle.register.specs.declared.ledger.Register.{Ghosts as RegisterMeans}
+use Rattle.protocol.specs.declared.board.Board.{Board}
+use Rattle.protocol.specs.Opening.{Opens}
+use Rattle.safety.specs.Promises.{Begins}
+use Rattle.safety.proofs.Going.{opens_begins}
+
+module _ {R G : Type 0} (ρ : RotaMeans R) (γ : RegisterMeans G) (law : (r : R) (v : ℕ) → ρ.leader r v < ρ.size r) where
+  pub opened_begins : (f : ℕ) (faulty : ProcessSet) (delay overlap : ℕ) (rota : Option R) (g : G) (b : Board R)
+      → Opens ρ f faulty delay overlap rota (length (γ.pairs g)) (Ok b) → Begins ρ γ b g
+  opened_begins f faulty delay overlap rota g b o = opens_begins ρ γ law f faulty delay overlap rota g (Ok b) o
