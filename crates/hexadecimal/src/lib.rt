@@ -2,7 +2,7 @@
 #![tactic(auto)]
 
 ghost use Rattle.std.specs.Prelude.{◌≡◌, IfOk};
-ghost use Rattle.hexadecimal.specs.Bytes.{blank, in_comment, stripped, digit_of, byte_of, paired, bytes_of, held_by};
+ghost use Rattle.hexadecimal.specs.Bytes.{blank, in_comment, stripped, paired, bytes_of, held_by};
 ghost use Rattle.hexadecimal.specs.Laws.{ReadsBack, SkipsComments};
 
 use std::alloc::{AllocError, Global};
@@ -35,57 +35,24 @@ fn strip(heap: Global, text: &[u8]) -> Result<Vec<u8>, AllocError>
     Ok(left)
 }
 
-fn digit_of(byte: u8) -> Option<u8>
-    ensures { result ≡ digit_of byte }
-{
-    match byte {
-        b'0'..=b'9' => Some(byte - b'0'),
-        b'A'..=b'F' => Some(byte - b'A' + 10),
-        b'a'..=b'f' => Some(byte - b'a' + 10),
-        _ => None,
-    }
-}
-
-fn byte_of(high: u8, low: u8) -> Option<u8>
-    ensures { result ≡ byte_of (digit_of high) (digit_of low) }
-{
-    match (digit_of(high), digit_of(low)) {
-        (Some(high), Some(low)) => Some(high * 16 + low),
-        _ => None,
-    }
-}
-
 // The bytes of a row of digits, unless something else stands there or the number of digits is odd.
 fn pair_up(heap: Global, digits: &[u8]) -> Result<Option<Vec<u8>>, AllocError>
     ensures { IfOk result (λ answer. held_by answer ≡ paired digits.now) }
 {
-    let mut bytes = Vec::new(heap);
-    let mut left = digits;
-    while let Some(([high, low], rest)) = left.split_first_chunk::<2>() {
-        let Some(byte) = byte_of(*high, *low) else {
-            return Ok(None);
-        };
-        bytes.push(byte)?;
-        left = rest;
+    let mut bytes = vec![in heap; 0; digits.len() / 2]?;
+    if hex::decode_to_slice(digits, bytes.as_mut_slice()).is_err() {
+        return Ok(None);
     }
-    Ok(if left.is_empty() { Some(bytes) } else { None })
+    Ok(Some(bytes))
 }
 
-// The bytes of a text, by way of its digits.
-fn read(heap: Global, text: &[u8]) -> Result<Option<Vec<u8>>, AllocError>
+// The bytes that the text writes, unless something else stands there or the number of digits is odd.
+#[tactic(auto, using(crate::proofs::Laws::reads_back, crate::proofs::Laws::skips_comments))]
+pub fn bytes_of(heap: Global, text: &[u8]) -> Result<Option<Vec<u8>>, AllocError>
     ensures reads { IfOk result (λ answer. held_by answer ≡ bytes_of text.now) }
     ensures reads_back { ReadsBack }
     ensures skips_comments { SkipsComments }
 {
     let digits = strip(heap, text)?;
     pair_up(heap, digits.as_slice())
-}
-
-// The bytes that the text writes, unless something else stands there or the number of digits is odd.
-pub fn bytes_of(heap: Global, text: &[u8]) -> Result<Option<Vec<u8>>, AllocError>
-    ensures reads { IfOk result (λ answer. held_by answer ≡ bytes_of text.now) }
-    ensures reads_back { ReadsBack }
-    ensures skips_comments { SkipsComments }
-{
-    read(heap, text)
 }

@@ -3,4 +3,4 @@
 
 pub mod lines;
 
-pub use lines::list;
+pub use lines::{list, read_to_fault, write_fault};

@@ -1,11 +1,12 @@
 // The listing of a schedule: a line for each move, then the line of the fault, if there is one.
-ghost use Rattle.std.specs.Prelude.{◌≡◌, [], ◌++◌, map, string_bytes, OnOk};
+ghost use Rattle.std.specs.Prelude.{◌≡◌, ◌++◌, map, string_bytes, IfOk, OnOk};
 ghost use Rattle.std.specs.List.{flat_map};
 ghost use Rattle.schedule.specs.Laid.{LaidOut};
+ghost use Rattle.schedule.specs.Reading.{reading, Appends};
 ghost use Rattle.moves.specs.Orders.{placed_of};
-ghost use Rattle.listing.specs.Lines.{move_line, listing, WritesFault};
+ghost use Rattle.listing.specs.Lines.{move_line, fault_line, listing};
 
-use moves::Placed;
+use moves::{Fault, Placed};
 use schedule::{Stop, read};
 use std::alloc::Global;
 use std::fmt;
@@ -20,30 +21,30 @@ fn write_moves(moves: &[Placed], text: &mut String) -> fmt::Result
     Ok(())
 }
 
-// Appends the line of a fault.
-fn write_stop(stop: Stop, text: &mut String) -> fmt::Result
-    ensures { OnOk result (WritesFault stop (string_bytes text.old) (string_bytes text.new)) }
+// Appends the line of the fault, if there is one.
+pub fn write_fault(fault: Option<Fault>, text: &mut String) -> fmt::Result
+    ensures { OnOk result (string_bytes text.new ≡ string_bytes text.old ++ fault_line fault) }
 {
-    match stop {
-        Stop::Fault(fault) => {
-            writeln!(text, "{fault}")?;
-            Ok(())
-        }
-        Stop::NoMemory => Err(fmt::Error),
+    if let Some(fault) = fault {
+        writeln!(text, "{fault}")?;
     }
+    Ok(())
 }
 
-// Appends the listing of the schedule, by way of an empty list of moves.
-fn list_by<'a>(mut moves: Vec<Placed<'a>>, bytes: &'a [u8], text: &mut String) -> fmt::Result
-    requires { moves.items ≡ [] }
-    ensures lists { OnOk result (string_bytes text.new ≡ string_bytes text.old ++ listing bytes.now) }
+// Reads the whole schedule: appends its moves to `moves`, and answers the fault behind them, if there is one. It fails only
+// for want of memory.
+pub fn read_to_fault<'a>(
+    bytes: &'a [u8],
+    moves: &mut Vec<Placed<'a>>,
+) -> Result<Option<Fault>, fmt::Error>
+    ensures moves { OnOk result (Appends moves.old.items moves.new.items (reading bytes.now).moves) }
+    ensures fault { IfOk result (λ fault. (reading bytes.now).fault ≡ fault) }
     ensures laid { LaidOut bytes.now }
 {
-    let end = read(bytes, &mut moves);
-    write_moves(moves.as_slice(), text)?;
-    match end {
-        Ok(()) => Ok(()),
-        Err(stop) => write_stop(stop, text),
+    match read(bytes, moves) {
+        Ok(()) => Ok(None),
+        Err(Stop::Fault(fault)) => Ok(Some(fault)),
+        Err(Stop::NoMemory) => Err(fmt::Error),
     }
 }
 
@@ -52,5 +53,8 @@ pub fn list(heap: Global, bytes: &[u8], text: &mut String) -> fmt::Result
     ensures lists { OnOk result (string_bytes text.new ≡ string_bytes text.old ++ listing bytes.now) }
     ensures laid { LaidOut bytes.now }
 {
-    list_by(Vec::new(heap), bytes, text)
+    let mut moves = Vec::new(heap);
+    let fault = read_to_fault(bytes, &mut moves)?;
+    write_moves(moves.as_slice(), text)?;
+    write_fault(fault, text)
 }

@@ -1,8 +1,10 @@
 // Lists every schedule of a table: each line is printed, and behind a schedule what is listed of it.
-// A schedule is written in hexadecimal, with blanks between its digits and a comment behind `#`.
+// A schedule is written in hexadecimal with capital digits, with blanks between them and a comment behind `#`.
 #![tactic(auto)]
 
-ghost use Rattle.std.specs.Prelude.{◌≡◌, ◌<◌, not, ◌&&◌, length, IfSome, ◌==◌, slice_index};
+ghost use Rattle.std.specs.Prelude.{◌≡◌, Some, not, ◌&&◌, ◌||◌, length, IfOk, IfSome, ◌==◌, nat_le, slice_index, take_while};
+ghost use Rattle.std.specs.List.{list_all};
+ghost use Rattle.hexadecimal.specs.Bytes as hexadecimal;
 
 use anyhow::anyhow;
 use listing::list;
@@ -12,45 +14,26 @@ use std::alloc::{AllocError, Global};
 fn is_schedule(line: &[u8]) -> bool
     ensures { result ≡ (not (length line.now == 0) && not (slice_index line.now 0 == 35)) }
 {
-    !line.is_empty() && line[0] != b'#'
+    line.first().is_some_and(|byte| *byte != b'#')
 }
 
-fn digit(byte: u8) -> Option<u8>
-    ensures { IfSome result (λ n. n < 16) }
+// Whether nothing but capital digits and blanks stands before the comment: the table takes less than the crate reads.
+fn is_plain(line: &[u8]) -> bool
+    ensures { result ≡ list_all (λ c. nat_le 48 c && nat_le c 57 || nat_le 65 c && nat_le c 70 || c == 32) (take_while (λ c. not (c == 35)) line.now) }
 {
-    match byte {
-        b'0'..=b'9' => Some(byte - b'0'),
-        b'A'..=b'F' => Some(byte - b'A' + 10),
-        _ => None,
-    }
+    line.iter()
+        .take_while(|byte| **byte != b'#')
+        .all(|byte| matches!(*byte, b'0'..=b'9' | b'A'..=b'F' | b' '))
 }
 
 // The bytes of the schedule on the line, unless something else stands there.
-fn bytes_of(heap: Global, line: &[u8]) -> Result<Option<Vec<u8>>, AllocError> {
-    let mut bytes = Vec::new(heap);
-    let mut high = None;
-    for byte in line {
-        if *byte == b'#' {
-            break;
-        }
-        if *byte == b' ' {
-            continue;
-        }
-        let Some(low) = digit(*byte) else {
-            return Ok(None);
-        };
-        high = match high {
-            None => Some(low * 16),
-            Some(front) => {
-                bytes.push(front + low)?;
-                None
-            }
-        };
+fn bytes_of(heap: Global, line: &[u8]) -> Result<Option<Vec<u8>>, AllocError>
+    ensures { IfOk result (λ answer. IfSome answer (λ bytes. hexadecimal.bytes_of line.now ≡ Some bytes.items)) }
+{
+    if !is_plain(line) {
+        return Ok(None);
     }
-    match high {
-        None => Ok(Some(bytes)),
-        Some(_) => Ok(None),
-    }
+    hexadecimal::bytes_of(heap, line)
 }
 
 fn main(rt: HostRuntime) -> anyhow::Result<()> {

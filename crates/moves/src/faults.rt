@@ -1,8 +1,9 @@
 // What is wrong with a schedule, and where.
 use refusals::Refusal;
+use std::error::Error;
 
 // The layer of the reader that found the fault.
-#[derive(Clone, Copy, Debug)]
+#[derive(Clone, Copy, Debug, PartialEq, Eq)]
 pub enum Layer {
     Field,
     Move,
@@ -15,3 +16,5 @@ pub struct Fault {
     pub byte: usize,
     pub layer: Layer,
 }
+
+impl Error for Fault {}

@@ -1,7 +1,8 @@
 // The moves that a schedule orders, each with the numbers that its field holds, unjudged.
 
-#[derive(Clone, Copy)]
+#[derive(Clone, Copy, Debug, PartialEq, Eq)]
 pub struct Opening<'a> {
+    // 1 for the tally and 2 for the roll; any other number is refused when the board opens, and not here.
     pub register: u8,
     pub f: u8,
     // The faulty processes, as bits.
@@ -15,9 +16,10 @@ pub struct Opening<'a> {
 }
 
 // A record that a faulty process puts on the wire.
-#[derive(Clone, Copy)]
+#[derive(Clone, Copy, Debug, PartialEq, Eq)]
 pub struct Injection {
     pub sender: u8,
+    // Kind and vouch are numbers, as the schedule holds them: those that name none are refused when the record is made.
     pub kind: u8,
     // The receivers, as bits.
     pub to: u32,
@@ -27,18 +29,18 @@ pub struct Injection {
     pub vouch: u8,
 }
 
-#[derive(Clone, Copy)]
+#[derive(Clone, Copy, Debug, PartialEq, Eq)]
 pub enum Move<'a> {
     Open(Opening<'a>),
     Propose { process: u8, value: u16 },
     Tick { process: u8, ticks: u32 },
-    // The timer is 1 for the view timer and 2 for the spread timer.
+    // The timer is 1 for the view timer and 2 for the spread timer; any other number is refused when the move is made.
     Expire { process: u8, timer: u8 },
     Deliver { record: u16, process: u8 },
     Inject(Injection),
 }
 
-#[derive(Clone, Copy)]
+#[derive(Clone, Copy, Debug, PartialEq, Eq)]
 pub struct Placed<'a> {
     // The place of the tag of the move's first field.
     pub byte: usize,

@@ -1,5 +1,4 @@
 pub mod Whole
-pub mod Opens
 pub mod Walks
 pub mod Views
 pub mod Unroll

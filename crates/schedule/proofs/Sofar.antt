@@ -36,18 +36,18 @@ module _ (whole : Reading) (bs : List ℕ) (before items : List Placed) (at : �
   appended none =
       record { added = so.added; items = so.grown; same = sym (so.moves ∙ ap (λ l. map placed_of so.added ++ l) none ∙ append-nil (map placed_of so.added)) }
 
-  pub at-end : length bs ≤ at → Appends before items whole.moves × (whole.fault ≡ None)
-  at-end past =
+  pub at_end : length bs ≤ at → Appends before items whole.moves × (whole.fault ≡ None)
+  at_end past =
       let r = unrolled bs at ∙ cond-false (ltb at (length bs)) _ _ (le-ltb at (length bs) past) in
       (appended (ap (λ x. x.moves) r), so.fault ∙ ap (λ x. x.fault) r)
 
-  pub at-fault : (fault : Fault) → at < length bs → move_at bs at ≡ Err fault → Appends before items whole.moves × (whole.fault ≡ Some fault)
-  at-fault fault inside m =
+  pub at_fault : (fault : Fault) → at < length bs → move_at bs at ≡ Err fault → Appends before items whole.moves × (whole.fault ≡ Some fault)
+  at_fault fault inside m =
       let r = reading-at bs at _ inside m in (appended (ap (λ x. x.moves) r), so.fault ∙ ap (λ x. x.fault) r)
 
   -- a move that is read and finds no place
-  pub at-refusal : (placed : Placed) (next : ℕ) (after : List Placed) → at < length bs → move_at bs at ≡ Ok (record { order = order_of placed.order; next = next }) → after ≡ items → (k : ℕ) × (k < length whole.moves) × Appends before after (take k whole.moves)
-  at-refusal placed next after inside m kept =
+  pub at_refusal : (placed : Placed) (next : ℕ) (after : List Placed) → at < length bs → move_at bs at ≡ Ok (record { order = order_of placed.order; next = next }) → after ≡ items → (k : ℕ) × (k < length whole.moves) × Appends before after (take k whole.moves)
+  at_refusal placed next after inside m kept =
       let r = reading-at bs at _ inside m in
       let all = so.moves ∙ ap (λ l. map placed_of so.added ++ l) (ap (λ x. x.moves) r) in
       let long = ap length all ∙ length-append (map placed_of so.added) _ in (

@@ -8,7 +8,7 @@
 --   HandsOut                what the field layer answers
 --   known                   the tag of a whole field, or its fault: 17 before 18
 --   known_at                the tag of the field at a place, or its fault: 16, 17, 18 in this order
---   HandsTagged             what the field layer answers, with the tag known and the length right
+--   IsTagged                a field of the code as it stands there, with the tag known and the length right
 use Rattle.std.specs.Prelude.{◌≡◌, ℕ, ◌+◌, Bool, true, false, cond, List, length, take, drop, Some, None, Ok, Err, Option, Result, MatchResult, nat_le, slice_index}
 use Rattle.refusals.specs.declared.causes.Refusal.{Refusal}
 use Rattle.refusals.specs.declared.causes.Refusal.TheVariants.{CutShort, UnknownTag, WrongLength}
@@ -69,6 +69,3 @@ pub record IsTagged (bs : List ℕ) (at : ℕ) (field : Field) (tag : Tag) : Typ
   pub whole : IsField bs at field
   pub tagged : known_at bs at ≡ Ok tag
   pub long : right_length tag (length field.content.now) ≡ true
-
-abbrev pub HandsTagged : List ℕ → ℕ → Result (Field × Tag) Fault → Type 0
-HandsTagged bs at r = MatchResult r (λ p. IsTagged bs at p.0 p.1) (λ fault. known_at bs at ≡ Err fault)

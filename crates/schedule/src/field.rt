@@ -26,18 +26,9 @@ pub fn field_at<'a>(bytes: &'a [u8], byte: usize) -> Result<Field<'a>, Fault>
         byte,
         layer: Layer::Field,
     };
-    let left = bytes.len().saturating_sub(byte);
-    if left < HEAD {
-        return Err(cut);
-    }
+    let tag = *bytes.get(byte).ok_or(cut)?;
     let length = usize::from(two_at(bytes, byte + 1));
-    if left - HEAD < length {
-        return Err(cut);
-    }
     let start = byte + HEAD;
-    Ok(Field {
-        byte,
-        tag: bytes[byte],
-        content: &bytes[start..start + length],
-    })
+    let content = bytes.get(start..start + length).ok_or(cut)?;
+    Ok(Field { byte, tag, content })
 }

@@ -6,6 +6,7 @@ pub mod field;
 mod numbers;
 pub mod reader;
 pub mod reading;
+mod tagged;
 mod tags;
 
 pub use field::{Field, field_at};

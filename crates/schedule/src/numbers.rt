@@ -5,23 +5,23 @@ ghost use Rattle.schedule.specs.Numbers.{two_at, four_at};
 pub(crate) fn byte_at(bytes: &[u8], at: usize) -> u8
     ensures { result ≡ slice_index bytes.now at }
 {
-    if at < bytes.len() { bytes[at] } else { 0 }
+    bytes.get(at).copied().unwrap_or(0)
 }
 
+// Written out for two and for four: of N bytes that a closure gives, the proof did not close.
 pub(crate) fn two_at(bytes: &[u8], at: usize) -> u16
     ensures { result ≡ two_at bytes.now at }
 {
-    if at >= bytes.len() {
-        return 0;
-    }
-    u16::from(byte_at(bytes, at)) * 256 + u16::from(byte_at(bytes, at + 1))
+    u16::from_be_bytes([byte_at(bytes, at), byte_at(bytes, at.saturating_add(1))])
 }
 
 pub(crate) fn four_at(bytes: &[u8], at: usize) -> u32
     ensures { result ≡ four_at bytes.now at }
 {
-    if at >= bytes.len() {
-        return 0;
-    }
-    u32::from(two_at(bytes, at)) * 65536 + u32::from(two_at(bytes, at + 2))
+    u32::from_be_bytes([
+        byte_at(bytes, at),
+        byte_at(bytes, at.saturating_add(1)),
+        byte_at(bytes, at.saturating_add(2)),
+        byte_at(bytes, at.saturating_add(3)),
+    ])
 }

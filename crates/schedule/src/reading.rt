@@ -32,6 +32,7 @@ impl<'a> From<AllocFailed<Placed<'a>>> for Stop {
 }
 
 // Appends every move that the reader has yet to read.
+#[tactic(auto, using(crate::proofs::Sofar::start, crate::proofs::Sofar::moreover))]
 fn read_on<'a>(mut reader: Reader<'a>, moves: &mut Vec<Placed<'a>>) -> Result<(), Stop>
     ensures { ReadsAll (reading_from reader.entry.bytes.now reader.entry.at) moves.old.items result moves.new.items }
 {
@@ -41,20 +42,12 @@ fn read_on<'a>(mut reader: Reader<'a>, moves: &mut Vec<Placed<'a>>) -> Result<()
     Ok(())
 }
 
-// Appends every move of the schedule from a place on.
-fn read_from<'a>(bytes: &'a [u8], at: usize, moves: &mut Vec<Placed<'a>>) -> Result<(), Stop>
-    ensures reads { ReadsAll (reading_from bytes.now at) moves.old.items result moves.new.items }
-    ensures unrolled { Unrolled bytes.now }
-    ensures laid { LaidOut bytes.now }
-{
-    read_on(Reader::starting_at(bytes, at), moves)
-}
-
 // Appends every move of the schedule, up to its end or its first fault, to `moves`.
+#[tactic(auto, using(crate::proofs::Unroll::unrolled, crate::proofs::Ends::laid_out))]
 pub fn read<'a>(bytes: &'a [u8], moves: &mut Vec<Placed<'a>>) -> Result<(), Stop>
     ensures reads { ReadsAll (reading bytes.now) moves.old.items result moves.new.items }
     ensures unrolled { Unrolled bytes.now }
     ensures laid { LaidOut bytes.now }
 {
-    read_from(bytes, 0, moves)
+    read_on(Reader::new(bytes), moves)
 }
