@@ -16,9 +16,9 @@ pub struct Setting {
 #[derive(Clone, Copy)]
 pub struct Table {
     pub setting: Setting,
-    // Those at n and above are not looked at.
+    // Those at n and above are not looked at. An array, since opening a board takes no memory.
     pub processes: [Process; 31],
-    // How many records of the wire are used.
+    // How many records of the wire are used: the wire is lent for each call, and longer than what was sent.
     pub used: u16,
 }
 

@@ -3,7 +3,7 @@ use committee::ProcessSet;
 
 #[derive(Clone, Copy)]
 pub struct Draft {
-    // The numbers of a kind and of a vouch, if they are such numbers.
+    // The numbers of a kind and of a vouch, if they are such numbers: a draft may have any, and is refused for them.
     pub kind: u8,
     pub to: ProcessSet,
     pub number: u32,

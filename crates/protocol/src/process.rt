@@ -1,4 +1,5 @@
-// What one process keeps, grouped by the part of SQuad that it serves.
+// What one process keeps, grouped by the part of SQuad that it serves. The fields are plain numbers, 0 for none: a board may be
+// handed in with any of them, one half of a mark alone or a step of 9, and is refused for it.
 use wire::Vouch;
 
 #[derive(Clone, Copy, Debug, Default, PartialEq, Eq)]

@@ -28,7 +28,7 @@ pub struct Step {
     // The process's new fields.
     pub process: Process,
     pub answer: Answer,
-    // The records to append, in this order.
+    // The records to append, in this order; a list of them would take memory.
     pub first: Option<Record>,
     pub second: Option<Record>,
 }

@@ -108,11 +108,6 @@ rows_low (r ∷ rs) p s h =
 pub low_pairs : (rs : List Row) → Low (pairs_of rs)
 low_pairs rs p s h = rows_low rs p s (sym (has_pairs rs p s) ∙ h)
 
--- no row has the statement, if none does at any place
-pub listed_none : (rs : List Row) (s : Statement) → ((k : ℕ) → k < length rs → same_statement (get_or rs k no_row).statement s ≡ false) → listed rs s ≡ false
-listed_none [] s h = refl
-listed_none (r ∷ rs) s h = or_from _ _ (h 0 (omega arith)) (listed_none rs s (λ k l. h (suc k) (omega arith)))
-
 -- the first row that has the statement, or that none has, as a search for its place tells it
 place_none : (rs : List Row) (s : Statement) → length rs ≤ position_or_len (λ r. same_statement r.statement s) rs → listed rs s ≡ false
 place_none [] s h = refl

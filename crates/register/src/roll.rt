@@ -8,7 +8,7 @@ use crate::ledger::{Register, Unsigned, admits};
 use crate::pair::{Pair, Statement};
 use std::alloc::{AllocError, Global};
 
-// The memory for all pairs is taken when the roll is made.
+// A list and not a set, which would not keep the order of signing. The memory for all pairs is taken when the roll is made.
 #[derive(Drop)]
 pub struct Roll {
     pairs: Vec<Pair>,

@@ -13,7 +13,8 @@ use crate::row::Row;
 use committee::ProcessSet;
 use std::alloc::{AllocError, Global};
 
-// The memory for as many rows as there is room for pairs is taken when the tally is made.
+// A list and not a map, which takes memory as it grows, and signing cannot fail for want of it: the memory for as many rows as
+// there is room for pairs is taken when the tally is made.
 #[derive(Drop)]
 pub struct Tally {
     rows: Vec<Row>,

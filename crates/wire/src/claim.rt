@@ -1,4 +1,4 @@
-// What a record's certificate asks of the register.
+// What a record's certificate asks of the register. Two of the three cases hold nothing, so it is no Option.
 use register::Statement;
 
 #[derive(Clone, Copy)]

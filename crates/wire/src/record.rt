@@ -1,4 +1,4 @@
-// A record of the wire.
+// A record of the wire. A value or a back of 0 is none: a wire is handed in with any numbers, and judged as a whole.
 use crate::kind::Kind;
 use crate::vouch::Vouch;
 use committee::ProcessSet;
