@@ -5,7 +5,7 @@ use Rattle.refusals.specs.declared.causes.Refusal.TheVariants.{OutOfPlace}
 use Rattle.committee.specs.declared.rota.Rota.{Ghosts as RotaMeans}
 use Rattle.register.specs.declared.ledger.Register.{Ghosts as RegisterMeans}
 use Rattle.protocol.specs.declared.step.Answer.{Answer}
-use Rattle.protocol.specs.Plans.{Draft}
+use Rattle.protocol.specs.declared.draft.Draft.{Draft}
 use Rattle.protocol.specs.Runs.{Sitting, Ticks, Proposes, Expires, Delivers, Injects}
 use Rattle.protocol.specs.Runs.Move.{ticks as tick, proposes as propose, expires as expire, delivers as deliver, injects as inject}
 use Rattle.protocol.specs.Runs.Onward.{here, then}

@@ -1,7 +1,6 @@
 // One move of a schedule, made on an open board.
 ghost use Rattle.std.specs.Prelude.{◌≡◌};
 ghost use Rattle.moves.specs.Orders.{order_of};
-ghost use Rattle.protocol.specs.Drafts.{draft_as};
 ghost use Rattle.protocol.specs.Runs.{sitting};
 ghost use Rattle.player.specs.Making.{MakesMove};
 ghost use Rattle.player.specs.Playing.{drafted};
@@ -18,7 +17,7 @@ use wire::Record;
 
 // Neither type is this crate's, so this is no `From`.
 fn draft_of(injection: Injection) -> Draft
-    ensures { draft_as result ≡ drafted injection.kind injection.to injection.number injection.value injection.back injection.vouch }
+    ensures { result ≡ drafted injection.kind injection.to injection.number injection.value injection.back injection.vouch }
 {
     Draft {
         kind: injection.kind,
