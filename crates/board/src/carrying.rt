@@ -62,11 +62,9 @@ fn mark(wire: &mut [Record], index: u16, process: u8, heed: bool)
     requires { index < length wire.old }
     ensures { wire.new ≡ marked process index heed wire.old }
 {
-    let at = usize::from(index);
-    let mut delivered = wire[at];
+    let delivered = &mut wire[usize::from(index)];
     delivered.got = delivered.got.with(process);
     if heed {
         delivered.heeded = delivered.heeded.with(process);
     }
-    wire[at] = delivered;
 }

@@ -24,8 +24,7 @@ use Rattle.protocol.specs.Synchronizing.{last_place, view_here, on_view_expiry, 
 use Rattle.protocol.specs.Voting.{unlocked, phase_of, on_view_change, on_prepare, on_precommit, on_commit, on_decide, on_vote}
 use Rattle.protocol.specs.Steps.{is_heed}
 use Rattle.protocol.specs.Moments.{Moment, moment, seated, noted, done, played, received, marked, record_at, no_record}
-use Rattle.wire.specs.Claims.{claim_of, claim_holds}
-use Rattle.protocol.specs.Plans.{seat, used_of, asked, from_senders, best_backing, is_faulty, untimely, of_one_view, stale, undeliverable, at_end, is_due, deadline_of, tick_plan, propose_plan, expire_plan, deliver_plan, inject_plan, injecting, drafted, ruled_by}
+use Rattle.protocol.specs.Plans.{seat, used_of, holding, heard_from, asked, best_backing, is_faulty, untimely, of_one_view, stale, undeliverable, at_end, is_due, deadline_of, tick_plan, propose_plan, expire_plan, deliver_plan, inject_plan, injecting, drafted, ruled_by}
 use Rattle.safety.proofs.Moves.{known_kept, roomy-kept}
 
 -- a step leaves the decision, unless there was none
@@ -96,21 +95,21 @@ module _ (leader : ℕ → ℕ) (m : Moment) (p i : ℕ) where
   s = m.table.setting
 
   pub rule_leaves : (j : Kind) → Leaves q (ruled_by leader m p i j r)
-  rule_leaves Disclose = disclose_leaves s q p r (from_senders (asked p r (Some r.value)) r.sender (used_of m)) (from_senders (asked p r None) r.sender (used_of m)) (leader 1)
-  rule_leaves AllowAny = allow_leaves s q p r (from_senders (asked p r None) r.sender (used_of m)) (leader 1)
-  rule_leaves Certificate = certificate-leaves s q p r (claim_holds (claim_of m.table.setting.committee r) m.signed.has) (leader 1)
-  rule_leaves EpochCompleted = completed_leaves s q p r (from_senders (asked p r None) r.sender (used_of m))
-  rule_leaves EnterEpoch = enter_leaves s q p r (claim_holds (claim_of m.table.setting.committee r) m.signed.has)
+  rule_leaves Disclose = disclose_leaves s q p r (heard_from m p r (Some r.value)) (heard_from m p r None) (leader 1)
+  rule_leaves AllowAny = allow_leaves s q p r (heard_from m p r None) (leader 1)
+  rule_leaves Certificate = certificate-leaves s q p r (holding m r) (leader 1)
+  rule_leaves EpochCompleted = completed_leaves s q p r (heard_from m p r None)
+  rule_leaves EnterEpoch = enter_leaves s q p r (holding m r)
   rule_leaves ViewChange =
-      change_leaves s q p r (eqb (leader r.number) p) (claim_holds (claim_of m.table.setting.committee r) m.signed.has) (from_senders (asked p r None) r.sender (used_of m))
+      change_leaves s q p r (eqb (leader r.number) p) (holding m r) (heard_from m p r None)
       (best_backing (asked p r None) i (used_of m))
-  rule_leaves Prepare = prepare_leaves s q p r (claim_holds (claim_of m.table.setting.committee r) m.signed.has) (leader r.number)
-  rule_leaves PrepareVote = vote_leaves s q p r ballot.Prepare (eqb (leader r.number) p) (from_senders (asked p r (Some r.value)) r.sender (used_of m))
-  rule_leaves Precommit = precommit_leaves s q p r (claim_holds (claim_of m.table.setting.committee r) m.signed.has) (leader r.number)
-  rule_leaves PrecommitVote = vote_leaves s q p r ballot.Precommit (eqb (leader r.number) p) (from_senders (asked p r (Some r.value)) r.sender (used_of m))
-  rule_leaves Commit = commit_leaves s q p r (claim_holds (claim_of m.table.setting.committee r) m.signed.has) (leader r.number)
-  rule_leaves CommitVote = vote_leaves s q p r ballot.Commit (eqb (leader r.number) p) (from_senders (asked p r (Some r.value)) r.sender (used_of m))
-  rule_leaves Decide = decide_leaves s q p r (claim_holds (claim_of m.table.setting.committee r) m.signed.has)
+  rule_leaves Prepare = prepare_leaves s q p r (holding m r) (leader r.number)
+  rule_leaves PrepareVote = vote_leaves s q p r ballot.Prepare (eqb (leader r.number) p) (heard_from m p r (Some r.value))
+  rule_leaves Precommit = precommit_leaves s q p r (holding m r) (leader r.number)
+  rule_leaves PrecommitVote = vote_leaves s q p r ballot.Precommit (eqb (leader r.number) p) (heard_from m p r (Some r.value))
+  rule_leaves Commit = commit_leaves s q p r (holding m r) (leader r.number)
+  rule_leaves CommitVote = vote_leaves s q p r ballot.Commit (eqb (leader r.number) p) (heard_from m p r (Some r.value))
+  rule_leaves Decide = decide_leaves s q p r (holding m r)
 
 -- ---- the five moves
 

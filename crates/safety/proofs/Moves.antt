@@ -6,7 +6,6 @@ use Rattle.wire.specs.declared.kind.Kind.{Kind}
 use Rattle.wire.specs.declared.kind.Kind.TheVariants.{Disclose, AllowAny, Certificate, EpochCompleted, EnterEpoch, ViewChange, Prepare, PrepareVote, Precommit, PrecommitVote, Commit, CommitVote, Decide}
 use Rattle.wire.specs.declared.record.Record.{Record}
 use Rattle.wire.specs.Kinds.{kind_number}
-use Rattle.wire.specs.Claims.{claim_of, claim_holds}
 use Rattle.protocol.specs.declared.ballot.Ballot.TheVariants as ballot
 use Rattle.protocol.specs.declared.process.Process.{Process}
 use Rattle.protocol.specs.declared.step.Step.{Step}
@@ -14,7 +13,7 @@ use Rattle.protocol.specs.Processes.{idle, running}
 use Rattle.protocol.specs.Steps.{drops}
 use Rattle.protocol.specs.Moments.{Moment, moment, marked, received, record_at}
 use Rattle.protocol.specs.Ranges.{process_fits}
-use Rattle.protocol.specs.Plans.{seat, used_of, board_fits, crowded, full, is_faulty, known, roomy as gated, asked, from_senders, best_backing, ruled_by, untimely, of_one_view, stale, undeliverable, deliver_plan}
+use Rattle.protocol.specs.Plans.{seat, used_of, holding, heard_from, board_fits, crowded, full, is_faulty, known, roomy as gated, asked, best_backing, ruled_by, untimely, of_one_view, stale, undeliverable, deliver_plan}
 use Rattle.agreement.specs.Wires.{Correct}
 use Rattle.agreement.specs.Facts.{Formed}
 use Rattle.safety.specs.Kept.{committee_of, Kept}
@@ -86,21 +85,21 @@ module _ (leader : ℕ → ℕ) (m : Moment) (k : Kept leader m) (p i : ℕ) (le
     ruled-kept Disclose e =
         let w = waits Disclose e refl in let s = still w in disclose_kept leader m k p i member ok below free (led 1) w s.view s.epoch s.spread form e
     ruled-kept AllowAny e =
-        let w = waits AllowAny e refl in let s = still w in allow_any_kept leader m k p i member ok below free (led 1) w s.view s.epoch s.spread form e (from_senders (asked p r None) r.sender (used_of m))
+        let w = waits AllowAny e refl in let s = still w in allow_any_kept leader m k p i member ok below free (led 1) w s.view s.epoch s.spread form e (heard_from m p r None)
     ruled-kept Certificate e =
-        let w = waits Certificate e refl in let s = still w in certificate-kept leader m k p i member ok below free (led 1) w s.view s.epoch s.spread form (claim_holds (claim_of (committee_of m) r) m.signed.has)
+        let w = waits Certificate e refl in let s = still w in certificate-kept leader m k p i member ok below free (led 1) w s.view s.epoch s.spread form (holding m r)
     ruled-kept EpochCompleted e = completed_kept leader m k p i member ok below free led (runs EpochCompleted e refl) form e
     ruled-kept EnterEpoch e = entered_kept leader m k p i member ok below free led (runs EnterEpoch e refl) form e
-    ruled-kept ViewChange e = change_kept leader m k p i member ok below free led (runs ViewChange e refl) form (from_senders (asked p r None) r.sender (used_of m)) (best_backing (asked p r None) i (used_of m)) (here ViewChange e refl) (late ViewChange e (omega arith))
+    ruled-kept ViewChange e = change_kept leader m k p i member ok below free led (runs ViewChange e refl) form (heard_from m p r None) (best_backing (asked p r None) i (used_of m)) (here ViewChange e refl) (late ViewChange e (omega arith))
     ruled-kept Prepare e = prepare_kept leader m k p i member ok below free led (runs Prepare e refl) form e (here Prepare e refl) (late Prepare e (omega arith))
     ruled-kept PrepareVote e =
-        vote_kept leader m k p i member ok below free led (runs PrepareVote e refl) form ballot.Prepare (from_senders (asked p r (Some r.value)) r.sender (used_of m)) (here PrepareVote e refl) (late PrepareVote e (omega arith))
+        vote_kept leader m k p i member ok below free led (runs PrepareVote e refl) form ballot.Prepare (heard_from m p r (Some r.value)) (here PrepareVote e refl) (late PrepareVote e (omega arith))
     ruled-kept Precommit e = precommit_kept leader m k p i member ok below free led (runs Precommit e refl) form e (here Precommit e refl) (late Precommit e (omega arith))
     ruled-kept PrecommitVote e =
-        vote_kept leader m k p i member ok below free led (runs PrecommitVote e refl) form ballot.Precommit (from_senders (asked p r (Some r.value)) r.sender (used_of m)) (here PrecommitVote e refl) (late PrecommitVote e (omega arith))
+        vote_kept leader m k p i member ok below free led (runs PrecommitVote e refl) form ballot.Precommit (heard_from m p r (Some r.value)) (here PrecommitVote e refl) (late PrecommitVote e (omega arith))
     ruled-kept Commit e = commit_kept leader m k p i member ok below free led (runs Commit e refl) form e (here Commit e refl) (late Commit e (omega arith))
     ruled-kept CommitVote e =
-        vote_kept leader m k p i member ok below free led (runs CommitVote e refl) form ballot.Commit (from_senders (asked p r (Some r.value)) r.sender (used_of m)) (here CommitVote e refl) (late CommitVote e (omega arith))
+        vote_kept leader m k p i member ok below free led (runs CommitVote e refl) form ballot.Commit (heard_from m p r (Some r.value)) (here CommitVote e refl) (late CommitVote e (omega arith))
     ruled-kept Decide e = decide_kept leader m k p i member ok below free led (runs Decide e refl) form e
 
 -- the first causes that every move on a board meets

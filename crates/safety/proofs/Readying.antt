@@ -7,7 +7,6 @@ use Rattle.wire.specs.declared.kind.Kind.{Kind}
 use Rattle.wire.specs.declared.kind.Kind.TheVariants.{Disclose, AllowAny, Certificate, EpochCompleted, EnterEpoch, ViewChange, Prepare, PrepareVote, Precommit, PrecommitVote, Commit, CommitVote, Decide}
 use Rattle.wire.specs.declared.vouch.Vouch.{Vouch}
 use Rattle.wire.specs.declared.record.Record.{Record}
-use Rattle.wire.specs.Claims.{claim_of, claim_holds}
 use Rattle.wire.specs.Kinds.{kind_of, vouch_of}
 use Rattle.wire.specs.Ranges.{in_range}
 use Rattle.protocol.specs.declared.ballot.Ballot.{Ballot}
@@ -24,7 +23,7 @@ use Rattle.protocol.specs.Certifying.{on_disclose, on_allow_any, on_certificate}
 use Rattle.protocol.specs.Synchronizing.{last_place, view_here, on_view_expiry, on_epoch_completed, on_enter_epoch}
 use Rattle.protocol.specs.Voting.{unlocked, phase_of, on_view_change, on_prepare, on_precommit, on_commit, on_decide, on_vote}
 use Rattle.protocol.specs.Moments.{Moment, moment, delivered, marked, record_at}
-use Rattle.protocol.specs.Plans.{seat, used_of, ahead, crowded, full, roomy, asked, from_senders, best_backing, is_faulty, untimely, of_one_view, stale, undeliverable, at_end, is_due, deadline_of, tick_plan, propose_plan, expire_plan, deliver_plan, inject_plan, injecting, drafted, ruled_by}
+use Rattle.protocol.specs.Plans.{seat, used_of, holding, heard_from, ahead, crowded, full, roomy, asked, best_backing, is_faulty, untimely, of_one_view, stale, undeliverable, at_end, is_due, deadline_of, tick_plan, propose_plan, expire_plan, deliver_plan, inject_plan, injecting, drafted, ruled_by}
 use Rattle.protocol.specs.Ready.{Free, Ready, Doable}
 use Rattle.safety.specs.Kept.{committee_of}
 use Rattle.safety.proofs.Fitting.{used_fits}
@@ -90,21 +89,21 @@ module _ (room : ℕ) (m : Moment) (p : ℕ) (free : Free room m) where
     s = m.table.setting
 
     abbrev held : Bool
-    held = claim_holds (claim_of m.table.setting.committee r) m.signed.has
+    held = holding m r
 
     rule_ready : (j : Kind) → Fine (ruled_by leader m p i j r)
-    rule_ready Disclose = disclose_ready s q r (from_senders (asked p r (Some r.value)) r.sender (used_of m)) (from_senders (asked p r None) r.sender (used_of m)) (leader 1)
-    rule_ready AllowAny = allow_ready s q r (from_senders (asked p r None) r.sender (used_of m)) (leader 1)
+    rule_ready Disclose = disclose_ready s q r (heard_from m p r (Some r.value)) (heard_from m p r None) (leader 1)
+    rule_ready AllowAny = allow_ready s q r (heard_from m p r None) (leader 1)
     rule_ready Certificate = certificate-ready s q r held (leader 1)
-    rule_ready EpochCompleted = completed_ready s q r (from_senders (asked p r None) r.sender (used_of m))
+    rule_ready EpochCompleted = completed_ready s q r (heard_from m p r None)
     rule_ready EnterEpoch = enter_ready s q r held
-    rule_ready ViewChange = change_ready s q r (eqb (leader r.number) p) held (from_senders (asked p r None) r.sender (used_of m)) (best_backing (asked p r None) i (used_of m))
+    rule_ready ViewChange = change_ready s q r (eqb (leader r.number) p) held (heard_from m p r None) (best_backing (asked p r None) i (used_of m))
     rule_ready Prepare = prepare_ready s q r held (leader r.number)
-    rule_ready PrepareVote = vote_ready s q r ballot.Prepare (eqb (leader r.number) p) (from_senders (asked p r (Some r.value)) r.sender (used_of m))
+    rule_ready PrepareVote = vote_ready s q r ballot.Prepare (eqb (leader r.number) p) (heard_from m p r (Some r.value))
     rule_ready Precommit = precommit_ready s q r held (leader r.number)
-    rule_ready PrecommitVote = vote_ready s q r ballot.Precommit (eqb (leader r.number) p) (from_senders (asked p r (Some r.value)) r.sender (used_of m))
+    rule_ready PrecommitVote = vote_ready s q r ballot.Precommit (eqb (leader r.number) p) (heard_from m p r (Some r.value))
     rule_ready Commit = commit_ready s q r held (leader r.number)
-    rule_ready CommitVote = vote_ready s q r ballot.Commit (eqb (leader r.number) p) (from_senders (asked p r (Some r.value)) r.sender (used_of m))
+    rule_ready CommitVote = vote_ready s q r ballot.Commit (eqb (leader r.number) p) (heard_from m p r (Some r.value))
     rule_ready Decide = decide_ready s q r held
 
 -- ---- the five moves

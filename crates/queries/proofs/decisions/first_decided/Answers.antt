@@ -1,10 +1,7 @@
-use Rattle.std.proofs.Common.{refl, sym, ◌∙◌}
+use Rattle.std.proofs.Common.{sym, ◌∙◌}
 use Rattle.protocol.specs.Processes.{blank_process}
 use Rattle.queries.proofs.Deciding.{decided_here, decided_later, decided_nowhere}
 use Rattle.queries.proofs.decisions.first_decided.Goals as goal
-
-pub loop-number-init : goal.loop-number-init
-loop-number-init c = refl
 
 pub returns-then-has_decided : goal.returns-then-has_decided
 returns-then-has_decided c =
