@@ -11,10 +11,10 @@ use Rattle.schedule.proofs.Views.{View, blocked, single, double, bad_rota, view}
 
 module _ (bs : List ℕ) where
   passes : (at : ℕ) (step : Step) → View bs at → move_at bs at ≡ Ok step → at < step.next
-  passes at step (blocked fault m b f) e = let z : ◌≡◌ {A = ℕ} 0 1 = cc in absurd (omega arith)
+  passes at step (blocked fault m b f) e = cc
   passes at step (single order m w f p) e = let n : step.next ≡ behind_at bs at = cc in omega arith
   passes at step (double order m w v f g p) e = let n : step.next ≡ behind_at bs (behind_at bs at) = cc in omega arith
-  passes at step (bad_rota fault m b w f g) e = let z : ◌≡◌ {A = ℕ} 0 1 = cc in absurd (omega arith)
+  passes at step (bad_rota fault m b w f g) e = cc
 
   -- every move takes the reader forward
   pub forward : (at : ℕ) (step : Step) → move_at bs at ≡ Ok step → at < step.next

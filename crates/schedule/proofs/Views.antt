@@ -1,39 +1,22 @@
 -- The ways in which a move begins at a place, each with what it says of the fields there. Assumes nothing.
-use Rattle.std.proofs.Common.{◌≡◌, ℕ, ◌≤◌, true, false, eqb, ltb, ◌⊎◌, List, Some, None, Ok, Err, Option, Result, sym, refl, ap, ◌∙◌, subst, inr, ⊎_elim, arith}
+use Rattle.std.proofs.Common.{◌≡◌, ℕ, ◌≤◌, true, false, eqb, ltb, ◌⊎◌, List, Some, None, Ok, Err, Result, sym, refl, ap, ◌∙◌, subst, inr, ⊎_elim, arith}
 use Rattle.std.proofs.lemmas.Bool.{cases_Bool, cases_eq, eqb-true, eqb-false, eq-eqb, ne_eqb, lt-ltb, cond-true, cond-false}
 use Rattle.std.proofs.lemmas.Bool.Decides.{nat_tests}
-use Rattle.refusals.specs.declared.causes.Refusal.TheVariants.{WrongLength, OutOfPlace}
+use Rattle.refusals.specs.declared.causes.Refusal.TheVariants.{OutOfPlace}
 use Rattle.moves.specs.declared.faults.Fault.{Fault}
 use Rattle.schedule.specs.declared.tags.Tag.{Tag}
 use Rattle.schedule.specs.declared.tags.Tag.TheVariants.{Open, Rota, Propose, Tick, Expire, Deliver, Inject}
 use Rattle.schedule.specs.Tags.{tag_of, right_length}
-use Rattle.schedule.specs.Fields.{tag_at, length_at, behind_at, whole_at, content_at, known_at, known, known_as, cut_fault, move_fault}
+use Rattle.schedule.specs.Fields.{tag_at, length_at, behind_at, whole_at, content_at, known_at, move_fault}
 use Rattle.moves.specs.Orders.{Order}
 use Rattle.schedule.specs.Moves.{opened, with_rota, later_order, later_at, made_at, started_at, move_at}
 use Rattle.schedule.specs.Laid.{in_place, fault_of, fault_at}
-use Rattle.schedule.proofs.Whole.{split, known-ok}
-
-known-err : (o : Option Tag) (n at : ℕ) (fault : Fault) → known_as o n at ≡ Err fault → fault.byte ≡ at
-known-err None n at fault e = cc
-known-err (Some tag) n at fault e =
-    ⊎_elim
-    (λ p. let q = p.1 in let z : ◌≡◌ {A = ℕ} 0 1 = cc in absurd (omega arith))
-    (λ p. let q = p.1 in cc)
-    (split (right_length tag n) (Ok tag) (Err (move_fault WrongLength at)) (Err fault) e)
 
 known-at_err : (bs : List ℕ) (at : ℕ) (fault : Fault) → known_at bs at ≡ Err fault → fault.byte ≡ at
-known-at_err bs at fault e =
-    ⊎_elim
-    (λ p. known-err (tag_of (tag_at bs at)) (length_at bs at) at fault p.1)
-    (λ p. let q = p.1 in cc)
-    (split (whole_at bs at) (known (tag_at bs at) (length_at bs at) at) (Err (cut_fault at)) (Err fault) e)
+known-at_err bs at fault e = grind (arith, nat_tests)
 
 pub known-at_ok : (bs : List ℕ) (at : ℕ) (tag : Tag) → known_at bs at ≡ Ok tag → (whole_at bs at ≡ true) × ((tag_of (tag_at bs at) ≡ Some tag) × (right_length tag (length_at bs at) ≡ true))
-known-at_ok bs at tag e =
-    ⊎_elim
-    (λ p. (p.0, known-ok (tag_of (tag_at bs at)) (length_at bs at) at tag p.1))
-    (λ p. let q = p.1 in let z : ◌≡◌ {A = ℕ} 0 1 = cc in absurd (omega arith))
-    (split (whole_at bs at) (known (tag_at bs at) (length_at bs at) at) (Err (cut_fault at)) (Ok tag) e)
+known-at_ok bs at tag e = grind (arith, nat_tests)
 
 rota_is_two : (b : ℕ) → tag_of b ≡ Some Rota → b ≡ 2
 rota_is_two b e = grind (arith, nat_tests)
