@@ -20,7 +20,7 @@ use registers::RegisterKind;
 use std::fmt;
 use wire::{Kind, Record, Vouch};
 
-// OPEN.
+// OPEN is the first move.
 const FIRST_MOVE: u8 = 1;
 
 // What stands where nothing was sent yet. No kind is that of nothing, so a record has no default.
