@@ -92,6 +92,7 @@ impl Rest<'_> {
     ) -> fmt::Result
         ensures { OnOk result (string_bytes text.new ≡ string_bytes text.old ++ lines_on R.Rota G.Register board register.old self.entry) }
     {
+        // An array, since a wire takes no memory.
         let mut wire = [NO_RECORD; 1024];
         write_opening(Outcome::Opened(board.table.setting.committee.n), text)?;
         play(&mut board, &mut wire, register, self.moves, text)?;
