@@ -25,10 +25,20 @@ module _ {R G : Type 0} (γ : RegisterMeans G) (a : Sitting R G) (plan : Result 
   abbrev before : Moment
   before = moment_of γ a
 
+  pub played-refused : (e : Refusal) → Err e ≡ plan → Makes γ plan (played plan p before) a a (Err e)
+  played-refused e is =
+      let P : Result Step Refusal → Type 0 = λ y. Makes γ y (played y p before) a a (Err e) in
+      subst P is (record { answer = refl; after = refl; same = refl; stays = λ _. refl })
+
   pub played-done : (z : Step) (b : Sitting R G) → Ok z ≡ plan → moment_of γ b ≡ done p z before → b.board.rota ≡ a.board.rota → Makes γ plan (played plan p before) a b (Ok z.answer)
   played-done z b is left same =
       let P : Result Step Refusal → Type 0 = λ y. Makes γ y (played y p before) a b (Ok z.answer) in
       subst P is (record { answer = refl; after = left; same = same; stays = λ e. absurd (false≢true (sym e)) })
+
+  pub received-refused : (i : ℕ) (e : Refusal) → Err e ≡ plan → Makes γ plan (received plan p i before) a a (Err e)
+  received-refused i e is =
+      let P : Result Step Refusal → Type 0 = λ y. Makes γ y (received y p i before) a a (Err e) in
+      subst P is (record { answer = refl; after = refl; same = refl; stays = λ _. refl })
 
   pub received-done : (i : ℕ) (z : Step) (b : Sitting R G) → Ok z ≡ plan → moment_of γ b ≡ done p z (moment before.table (marked p i (is_heed z.answer) before.wire) before.signed)
       → b.board.rota ≡ a.board.rota → Makes γ plan (received plan p i before) a b (Ok z.answer)
