@@ -24,7 +24,8 @@ fn sign_share<G: Register>(register: &mut G, sent: &Record)
     }
 }
 
-// Writes a record behind the used ones, and signs its share.
+// Writes a record behind the used ones, and signs its share. Table, wire and register come one by one, here and below: a
+// struct of three `&mut` would have to say of each that it ends as what it was lent from.
 fn append<G: Register>(table: &mut Table, wire: &mut [Record], register: &mut G, sent: Record)
     requires within { table.old.used < length wire.old }
     requires capped { table.old.used < 65535 }

@@ -62,6 +62,7 @@ impl<'a> Arrival<'a> {
         let holds = record.holds(&delivery.seat.setting.committee, register);
         let from = from_senders(used, &any, record.sender);
         let from_same = from_senders(used, &same, record.sender);
+        // The list reads as the rule book does: each kind has one rule, which asks for facts of its own.
         match record.kind {
             Kind::Disclose => delivery.on_disclose(from_same, from, first),
             Kind::AllowAny => delivery.on_allow_any(from, first),

@@ -78,6 +78,7 @@ fn expire_view<R: Rota>(rota: &R, scene: &Scene<'_>) -> Result<Step, Refusal>
     if at.place > committee.f && at.epoch == LAST_EPOCH {
         return Err(Refusal::LastEpoch);
     }
+    // A seat's epoch is 65 535 at most, so the cast changes nothing.
     let next = committee.view_at(at.epoch as u16, at.place + 1);
     Ok(seat.on_view_expiry(rota.leader(next)))
 }
@@ -86,6 +87,7 @@ fn expire_spread<R: Rota>(rota: &R, scene: &Scene<'_>) -> Step
     ensures { result ≡ spread_expiry (R.Rota.leader rota.now) scene.now.table.now scene.now.seat.number }
 {
     let seat = scene.seat;
+    // The same holds here.
     let epoch = seat.process.synchronizer.epoch as u16;
     let first = seat.setting.committee.view_at(epoch, 1);
     seat.on_spread_expiry(rota.leader(first))
@@ -100,7 +102,7 @@ fn expired<R: Rota>(rota: &R, scene: &Scene<'_>, timer: Timer) -> Result<Step, R
     }
 }
 
-// Timer 1 is the view timer, timer 2 the spread timer.
+// Timer 1 is the view timer, timer 2 the spread timer; a call may name any number, and is refused for the others.
 pub fn plan_expire<R: Rota, G: Register>(
     board: &Board<R>,
     wire: &[Record],

@@ -15,10 +15,7 @@ use wire::Record;
 fn is_charged(sent: &Record, committee: &Committee, epoch: u32) -> bool
     ensures { result ≡ (not (no_epoch sent.now) && is_charged committee.now epoch sent.now) }
 {
-    match sent.epoch(committee) {
-        Ok(spent_on) => !committee.faulty.contains(sent.sender) && spent_on == epoch,
-        Err(_) => false,
-    }
+    sent.epoch(committee) == Ok(epoch) && !committee.faulty.contains(sent.sender)
 }
 
 // What the record adds to the words of the epoch.
@@ -42,6 +39,7 @@ fn charged(used: &[Record], committee: &Committee, epoch: u32) -> u32
 }
 
 // The words that correct processes have spent on an epoch; epoch 0 is certification.
+#[tactic(auto, using(crate::proofs::Charging::charges))]
 pub fn words<R: Rota>(board: &Board<R>, wire: &[Record], epoch: u32) -> Result<u32, Refusal>
     ensures { result ≡ words_answer (R.Rota.size board.now.rota) board.now.table wire.now epoch }
 {

@@ -24,6 +24,7 @@ fn first_decided(members: &[Process], committee: &Committee) -> Option<u16>
     ensures { result ≡ first_decided committee.now 0 members.now }
 {
     for (number, process) in members.iter().enumerate() {
+        // There are 31 members at most, so the cast changes no number.
         if has_decided(process, number as u8, committee) {
             return Some(process.core.decided);
         }
