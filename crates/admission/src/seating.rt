@@ -20,7 +20,7 @@ pub fn in_order<R: Rota>(board: &Board<R>, wire: &[Record]) -> Result<(), Refusa
     ensures { Orders (R.Rota.size board.now.rota) board.now.table wire.now result }
 {
     let fitting = board.rota.size() == board.table.setting.committee.n;
-    if fitting && (board.table.in_range() && board.table.wire_in_range(wire)) {
+    if fitting && board.table.in_range() && board.table.wire_in_range(wire) {
         Ok(())
     } else {
         Err(Refusal::BoardOutOfRange)
@@ -89,7 +89,7 @@ impl<'a> Scene<'a> {
     pub fn used(&self) -> &'a [Record]
         ensures { result.now ≡ take self.now.table.now.used self.now.wire.now }
     {
-        &self.wire[0..usize::from(self.table.used)]
+        &self.wire[..usize::from(self.table.used)]
     }
 
     // Two records are free, and the register takes one more pair.

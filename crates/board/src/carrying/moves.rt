@@ -1,5 +1,6 @@
 // The five moves on a board. Each is one function of the sitting, the board with its wire and its register: contracts say
 // which board, wire, register and answer follow, and that a sitting that is a run goes on as one, with all that is promised.
+// The three are lent one by one: a caller that took its board back out of a struct of loans would know nothing of it.
 ghost use Rattle.protocol.specs.Runs.{sitting, Ticks, Proposes, Expires, Delivers, Injects};
 ghost use Rattle.safety.specs.Promises.{Keeps};
 
@@ -43,7 +44,7 @@ pub fn tick<R: Rota, G: Register>(
     Ok(step.answer)
 }
 
-// A timer that is due expires: 1 is the view timer, 2 the spread timer.
+// A timer that is due expires: 1 is the view timer, 2 the spread timer; a call may name any number, and is refused for the others.
 pub fn expire<R: Rota, G: Register>(
     board: &mut Board<R>,
     wire: &mut [Record],
