@@ -1,6 +1,6 @@
 -- The board and the process that a move is tested for, and whether the process takes a record. Assumes nothing.
 --   in_order n t w   the rota, of size n, fits the committee, and board and used records are in range
---   Orders           they are, or that is the cause
+--   FindsOrder       they are, or that is the cause
 --   Seated t p s     this is the seat of the process, which stands at a place of its epoch
 --   Admits           the process takes records of this kind and view, or the first cause that stands in the way
 use Rattle.std.specs.Prelude.{◌≡◌, ℕ, ◌+◌, ◌≤◌, Bool, true, false, cond, ◌&&◌, List, Ok, Err, Result, ◌==◌}
@@ -17,9 +17,9 @@ use Rattle.protocol.specs.Plans.{seat, ahead, untimely}
 abbrev pub in_order : ℕ → Table → List Record → Bool
 in_order n t w = n == t.setting.committee.n && (table_fits t && wire_fits t w)
 
-abbrev pub Orders : ℕ → Table → List Record → Result (Unit {0}) Refusal → Type 0
-Orders n t w (Ok u) = in_order n t w ≡ true
-Orders n t w (Err e) = (in_order n t w ≡ false) × (e ≡ BoardOutOfRange)
+abbrev pub FindsOrder : ℕ → Table → List Record → Result (Unit {0}) Refusal → Type 0
+FindsOrder n t w (Ok u) = in_order n t w ≡ true
+FindsOrder n t w (Err e) = (in_order n t w ≡ false) × (e ≡ BoardOutOfRange)
 
 pub record Seated (t : Table) (p : ℕ) (s : Seat) : Type 0 where
   pub setting : s.setting ≡ t.setting

@@ -2,7 +2,7 @@
 ghost use Rattle.std.specs.Prelude.{◌≡◌, ◌<◌, true, take};
 ghost use Rattle.committee.specs.Sets.{contains};
 ghost use Rattle.protocol.specs.Ranges.{table_fits};
-ghost use Rattle.admission.specs.Seating.{Orders, Seated};
+ghost use Rattle.admission.specs.Seating.{in_order, FindsOrder, Seated};
 ghost use Rattle.admission.specs.Scenes.{shown, Sets, SetsCorrect, FindsRoom};
 
 use crate::scene::Scene;
@@ -15,16 +15,22 @@ use wire::Record;
 // No more records of a wire can be used.
 const LONGEST_WIRE: usize = 65_535;
 
-// The rota has to fit the committee, and board and used records to be in range.
-pub fn in_order<R: Rota>(board: &Board<R>, wire: &[Record]) -> Result<(), Refusal>
-    ensures { Orders (R.Rota.size board.now.rota) board.now.table wire.now result }
+// Whether the rota fits the committee, and board and used records are in range.
+pub fn in_order<R: Rota>(board: &Board<R>, wire: &[Record]) -> bool
+    ensures { result ≡ in_order (R.Rota.size board.now.rota) board.now.table wire.now }
 {
     let fitting = board.rota.size() == board.table.setting.committee.n;
-    if fitting && board.table.in_range() && board.table.wire_in_range(wire) {
-        Ok(())
-    } else {
-        Err(Refusal::BoardOutOfRange)
+    fitting && board.table.in_range() && board.table.wire_in_range(wire)
+}
+
+// They have to be.
+pub fn find_order<R: Rota>(board: &Board<R>, wire: &[Record]) -> Result<(), Refusal>
+    ensures { FindsOrder (R.Rota.size board.now.rota) board.now.table wire.now result }
+{
+    if !in_order(board, wire) {
+        return Err(Refusal::BoardOutOfRange);
     }
+    Ok(())
 }
 
 fn seated(table: &Table, process: u8) -> Seat
@@ -48,7 +54,7 @@ impl<'a> Scene<'a> {
     ) -> Result<Scene<'a>, Refusal>
         ensures { Sets (R.Rota.size board.now.rota) board.now.table wire.now process result }
     {
-        in_order(board, wire)?;
+        find_order(board, wire)?;
         let table = &board.table;
         if process >= table.setting.committee.n {
             return Err(Refusal::NoSuchProcess);

@@ -4,7 +4,7 @@ ghost use Rattle.wire.specs.Words.{no_epoch};
 ghost use Rattle.agreement.specs.Words.{is_charged};
 ghost use Rattle.queries.specs.Asking.{charge, words_answer, line_answer, leader_answer, place_answer};
 
-use admission::in_order;
+use admission::find_order;
 use committee::{Committee, Rota};
 use protocol::Board;
 use protocol::ranges::LAST_EPOCH;
@@ -43,7 +43,7 @@ fn charged(used: &[Record], committee: &Committee, epoch: u32) -> u32
 pub fn words<R: Rota>(board: &Board<R>, wire: &[Record], epoch: u32) -> Result<u32, Refusal>
     ensures { result ≡ words_answer (R.Rota.size board.now.rota) board.now.table wire.now epoch }
 {
-    in_order(board, wire)?;
+    find_order(board, wire)?;
     if epoch > LAST_EPOCH {
         return Err(Refusal::FieldOutOfRange);
     }
@@ -55,7 +55,7 @@ pub fn words<R: Rota>(board: &Board<R>, wire: &[Record], epoch: u32) -> Result<u
 pub fn line<R: Rota>(board: &Board<R>, wire: &[Record], index: u16) -> Result<[u8; 48], Refusal>
     ensures { result ≡ line_answer (R.Rota.size board.now.rota) board.now.table wire.now index }
 {
-    in_order(board, wire)?;
+    find_order(board, wire)?;
     if index >= board.table.used {
         return Err(Refusal::NoSuchRecord);
     }
@@ -65,7 +65,7 @@ pub fn line<R: Rota>(board: &Board<R>, wire: &[Record], index: u16) -> Result<[u
 pub fn leader<R: Rota>(board: &Board<R>, wire: &[Record], view: u32) -> Result<u8, Refusal>
     ensures { result ≡ leader_answer (R.Rota.leader board.now.rota) (R.Rota.size board.now.rota) board.now.table wire.now view }
 {
-    in_order(board, wire)?;
+    find_order(board, wire)?;
     let (_epoch, _place) = board.table.setting.committee.epoch_place(view)?;
     Ok(board.rota.leader(view))
 }
@@ -74,7 +74,7 @@ pub fn leader<R: Rota>(board: &Board<R>, wire: &[Record], view: u32) -> Result<u
 pub fn place<R: Rota>(board: &Board<R>, wire: &[Record], view: u32) -> Result<(u32, u8), Refusal>
     ensures { result ≡ place_answer (R.Rota.size board.now.rota) board.now.table wire.now view }
 {
-    in_order(board, wire)?;
+    find_order(board, wire)?;
     let council = board.table.setting.committee;
     council.epoch_place(view)
 }

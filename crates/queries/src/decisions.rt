@@ -5,7 +5,7 @@ ghost use Rattle.protocol.specs.Runs.{sitting, Run};
 ghost use Rattle.safety.specs.Promises.{Promise};
 ghost use Rattle.queries.specs.Asking.{first_decided, decision_answer};
 
-use admission::in_order;
+use admission::find_order;
 use committee::{Committee, Rota};
 use protocol::{Board, Process};
 use refusals::Refusal;
@@ -42,7 +42,7 @@ pub fn decision<R: Rota, G: Register>(
     ensures value { result ≡ decision_answer (R.Rota.size board.now.rota) board.now.table wire.now }
     ensures promises { Run R.Rota G.Register (sitting board.now wire.now register.now) → Promise R.Rota G.Register (sitting board.now wire.now register.now) }
 {
-    in_order(board, wire)?;
+    find_order(board, wire)?;
     let committee = board.table.setting.committee;
     let members = &board.table.processes[0..usize::from(committee.n)];
     Ok(first_decided(members, &committee))
