@@ -81,6 +81,7 @@ impl Setting {
     }
 }
 
+// Two lines that differ in a type: one function over both would be the library's `all`.
 fn processes_fit(processes: &[Process], f: u8) -> bool
     ensures { result ≡ list_all (process_fits f) processes.now }
 {

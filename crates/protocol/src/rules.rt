@@ -99,7 +99,8 @@ impl Step {
     }
 }
 
-// A new record, which nobody has got or heeded, with no backing and no vouch.
+// A new record, which nobody has got or heeded, with no backing and no vouch. Kind, number and value go together here and
+// below, and a struct of them would be a record.
 fn new_record(sender: u8, to: ProcessSet, kind: Kind, number: u32, value: u16) -> Record
     ensures { result ≡ sent to sender kind number value 0 Nothing }
 {

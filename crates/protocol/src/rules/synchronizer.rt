@@ -33,6 +33,7 @@ impl Seat {
         }
         process.synchronizer.place += 1;
         process.synchronizer.due = process.synchronizer.clock + self.view_ticks();
+        // A seat's epoch is 65,535 at most, so the cast changes no number; so is it below.
         let view = self.setting.committee.view_at(
             process.synchronizer.epoch as u16,
             process.synchronizer.place,
