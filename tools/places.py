@@ -12,7 +12,7 @@ import re
 import sys
 
 SEARCHES = {
-    "1 enums": r"^\s*(pub(\(crate\))? )?enum \w+",
+    "1 enums": r"^\s*(pub(\(\w+\))? )?enum \w+",
     "1 numbers for kinds": r"\b(kind|phase|timer|register|vouch|step|lead)\b: u(8|16|32)\b",
     "1 kinds by number": r"\.number\(\)|from_number|\bkind: \d|=> \(\d|=> \d,$|\b(timer|register) == \d|\b(step|lead) (==|<|>=|=) ",
     "1 flags": r"\b\w+: bool\b",
@@ -45,7 +45,7 @@ def functions():
         head, start = None, 0
         for number, line in enumerate(open(path, encoding="utf-8"), 1):
             line = line.strip()
-            found = re.match(r"(pub(\(crate\))? )?fn (\w+)", line)
+            found = re.match(r"(pub(\(\w+\))? )?fn (\w+)", line)
             if found:
                 name, head, start, clauses = found.group(3), "", number, []
             if head is None:
