@@ -7,7 +7,7 @@ use crate::sets::ProcessSet;
 use refusals::Refusal;
 
 // The fields are public: whoever writes one owes the facts below it.
-#[derive(Clone, Copy)]
+#[derive(Clone, Copy, Debug, PartialEq, Eq)]
 pub struct Committee {
     pub n: u8,
     pub f: u8,
@@ -26,7 +26,7 @@ impl Committee {
             (λ c. (is_committee f faulty.bits ≡ true) × (c.n ≡ size_for f) × (c.f ≡ f) × (c.faulty ≡ faulty))
             (λ e. (is_committee f faulty.bits ≡ false) × (e ≡ NotACommittee)) }
     {
-        if f < 1 || f > 10 {
+        if !(1..=10).contains(&f) {
             return Err(Refusal::NotACommittee);
         }
         let n = 3 * f + 1;

@@ -1,9 +1,9 @@
 // A set of processes.
-ghost use Rattle.std.specs.Prelude.{◌≡◌};
+ghost use Rattle.std.specs.Prelude.{◌≡◌, ◌≤◌};
 ghost use Rattle.committee.specs.Sets.{contains, with_member, size};
 
 // Bit i stands for process i.
-#[derive(Clone, Copy)]
+#[derive(Clone, Copy, Debug, Default, PartialEq, Eq)]
 pub struct ProcessSet {
     pub bits: u32,
 }
@@ -29,7 +29,8 @@ impl ProcessSet {
     }
 
     pub fn len(self) -> u32
-        ensures { result ≡ size self }
+        ensures value { result ≡ size self }
+        ensures few { result ≤ 32 }
     {
         self.bits.count_ones()
     }

@@ -32,6 +32,7 @@ impl Rota for TurnRota {
     }
 
     fn leader(&self, view: u32) -> u8 {
+        // The rest is below n, so the cast changes no number.
         (view % u32::from(self.n)) as u8
     }
 }

@@ -9,6 +9,9 @@ use refusals::Refusal;
 // The greatest view that a record or a call can name: the last place of epoch 65,535 where f is 10.
 pub const LAST_VIEW: u32 = 720_885;
 
+// The last epoch that can be entered.
+pub const LAST_EPOCH: u32 = 65_535;
+
 impl Committee {
     // The epoch of a view and its place there, both counted from 1.
     pub fn epoch_place(&self, view: u32) -> Result<(u32, u8), Refusal>
@@ -17,10 +20,11 @@ impl Committee {
             (λ e. (is_view view ≡ false) × (e ≡ FieldOutOfRange)) }
         ensures undone { IfOk result (λ x. view_of self.now.f x.0 x.1 ≡ view) }
     {
-        if view < 1 || view > LAST_VIEW {
+        if !(1..=LAST_VIEW).contains(&view) {
             return Err(Refusal::FieldOutOfRange);
         }
         let before = view - 1;
+        // A committee's f is 10 at most, so the cast below changes no number.
         let per_epoch = u32::from(self.f) + 1;
         Ok((before / per_epoch + 1, (before % per_epoch + 1) as u8))
     }

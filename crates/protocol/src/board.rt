@@ -3,7 +3,7 @@ use crate::process::Process;
 use committee::{Committee, Rota};
 
 // What stays from the opening of a board on.
-#[derive(Clone, Copy)]
+#[derive(Clone, Copy, Debug, PartialEq, Eq)]
 pub struct Setting {
     pub committee: Committee,
     // δ: the spread timer measures it.

@@ -1,7 +1,7 @@
 // What a faulty process is to send, as it is given: no field has been looked at yet.
 use committee::ProcessSet;
 
-#[derive(Clone, Copy)]
+#[derive(Clone, Copy, Debug, PartialEq, Eq)]
 pub struct Draft {
     // The numbers of a kind and of a vouch, if they are such numbers: a draft may have any, and is refused for them.
     pub kind: u8,

@@ -1,5 +1,6 @@
-// What one process keeps, grouped by the part of SQuad that it serves. The fields are plain numbers, 0 for none: a board may be
-// handed in with any of them, one half of a mark alone or a step of 9, and is refused for it.
+// What one process keeps, grouped by the part of SQuad that it serves. The fields are plain numbers,
+// 0 for none: the rules compare them so, and a board may be handed in with one half of a mark alone or a step of 9, and is
+// refused for it.
 use wire::Vouch;
 
 #[derive(Clone, Copy, Debug, Default, PartialEq, Eq)]

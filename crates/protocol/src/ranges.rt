@@ -1,5 +1,5 @@
 // Whether a process, a board and the used part of a wire are in range.
-ghost use Rattle.std.specs.Prelude.{◌≡◌};
+ghost use Rattle.std.specs.Prelude.{◌≡◌, take};
 ghost use Rattle.std.specs.List.{list_all};
 ghost use Rattle.wire.specs.Ranges.{in_range};
 ghost use Rattle.protocol.specs.Ranges.{standing_fits, clock_fits, votes_fit, values_fit, process_fits, setting_fits, table_fits, wire_fits};
@@ -7,6 +7,7 @@ ghost use Rattle.protocol.specs.Ranges.{standing_fits, clock_fits, votes_fit, va
 use crate::board::{Setting, Table};
 use crate::process::{Phase, Process};
 use committee::Committee;
+pub use committee::views::LAST_EPOCH;
 use committee::views::LAST_VIEW;
 use wire::{Record, Vouch};
 
@@ -14,9 +15,6 @@ use wire::{Record, Vouch};
 pub const LAST_TICK: u64 = 1 << 40;
 
 const LAST_DEADLINE: u64 = (1 << 40) + 3_000_000;
-
-// The last epoch that can be entered.
-pub const LAST_EPOCH: u32 = 65_535;
 
 const LONGEST_DURATION: u32 = 1_000_000;
 
@@ -81,7 +79,7 @@ impl Setting {
     }
 }
 
-// Two lines that differ in a type: one function over both would be the library's `all`.
+// Two functions of a line each: written into the tests below, the proof of these did not close.
 fn processes_fit(processes: &[Process], f: u8) -> bool
     ensures { result ≡ list_all (process_fits f) processes.now }
 {
@@ -95,13 +93,19 @@ fn records_fit(records: &[Record], committee: &Committee) -> bool
 }
 
 impl Table {
+    // The processes of the committee.
+    pub fn members(&self) -> &[Process]
+        ensures { result.now ≡ take self.now.setting.committee.n self.now.processes }
+    {
+        &self.processes[..usize::from(self.setting.committee.n)]
+    }
+
     // The durations, and each process of the committee.
     pub fn in_range(&self) -> bool
         ensures { result ≡ table_fits self.now }
     {
         let committee = self.setting.committee;
-        let n = usize::from(committee.n);
-        self.setting.in_range() && processes_fit(&self.processes[..n], committee.f)
+        self.setting.in_range() && processes_fit(self.members(), committee.f)
     }
 
     // As many records as are used are there, and each of them is in range.

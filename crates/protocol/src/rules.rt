@@ -112,8 +112,8 @@ fn new_record(sender: u8, to: ProcessSet, kind: Kind, number: u32, value: u16) -
         back: 0,
         vouch: Vouch::Nothing,
         to,
-        got: ProcessSet { bits: 0 },
-        heeded: ProcessSet { bits: 0 },
+        got: ProcessSet::default(),
+        heeded: ProcessSet::default(),
     }
 }
 
@@ -121,7 +121,7 @@ fn new_record(sender: u8, to: ProcessSet, kind: Kind, number: u32, value: u16) -
 fn only(process: u8) -> ProcessSet
     ensures { result ≡ only process }
 {
-    ProcessSet { bits: 0 }.with(process)
+    ProcessSet::default().with(process)
 }
 
 impl Seat {

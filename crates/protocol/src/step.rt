@@ -23,12 +23,12 @@ impl Answer {
     }
 }
 
-#[derive(Clone, Copy)]
+#[derive(Clone, Copy, Debug, PartialEq, Eq)]
 pub struct Step {
     // The process's new fields.
     pub process: Process,
     pub answer: Answer,
-    // The records to append, in this order; a list of them would take memory.
+    // The records to append, in this order: two at most, each carried out by itself, so two fields are plainer than a list.
     pub first: Option<Record>,
     pub second: Option<Record>,
 }

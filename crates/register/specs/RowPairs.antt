@@ -108,6 +108,11 @@ rows_low (r ∷ rs) p s h =
 pub low_pairs : (rs : List Row) → Low (pairs_of rs)
 low_pairs rs p s h = rows_low rs p s (sym (has_pairs rs p s) ∙ h)
 
+-- no row has the statement, if none does at any place
+pub listed_none : (rs : List Row) (s : Statement) → ((k : ℕ) → k < length rs → same_statement (get_or rs k no_row).statement s ≡ false) → listed rs s ≡ false
+listed_none [] s h = refl
+listed_none (r ∷ rs) s h = or_from _ _ (h 0 (omega arith)) (listed_none rs s (λ k l. h (suc k) (omega arith)))
+
 -- the first row that has the statement, or that none has, as a search for its place tells it
 place_none : (rs : List Row) (s : Statement) → length rs ≤ position_or_len (λ r. same_statement r.statement s) rs → listed rs s ≡ false
 place_none [] s h = refl
@@ -138,12 +143,20 @@ unlisted_signers (r ∷ rs) s h =
     let parts = or_parts (same_statement r.statement s) (listed rs s) h in
     cond-false (same_statement r.statement s) _ _ parts.0 ∙ unlisted_signers rs s parts.1
 
-set_add_to : (rs : List Row) (i p : ℕ) (s : Statement) → Found rs i s
-    → let r = get_or rs i no_row in slice_set rs i (row_of r.statement (with_member r.signers p)) ≡ add_to rs p s
+set_add_to : (rs : List Row) (i p : ℕ) (s : Statement) → Found rs i s → slice_set rs i (row_of s (with_member (get_or rs i no_row).signers p)) ≡ add_to rs p s
 set_add_to [] i p s h = let l = h.0 in absurd (omega arith)
-set_add_to (r ∷ rs) zero p s h = sym (cond-true (same_statement r.statement s) _ _ h.1)
+set_add_to (r ∷ rs) zero p s h =
+    ap (λ (t : Statement). row_of t (with_member r.signers p) ∷ rs) (sym (same_is r.statement s h.1)) ∙ sym (cond-true (same_statement r.statement s) _ _ h.1)
 set_add_to (r ∷ rs) (suc i) p s h =
     ap (λ (zs : List Row). r ∷ zs) (set_add_to rs i p s (let l = h.0 in omega arith, h.1, λ k l. h.2 (suc k) (omega arith)))
+    ∙ sym (cond-false (same_statement r.statement s) _ _ (h.2 0 (omega arith)))
+
+set_kept_to : (rs : List Row) (i p : ℕ) (s : Statement) → Found rs i s
+    → let r = get_or rs i no_row in slice_set rs i (row_of r.statement (with_member r.signers p)) ≡ add_to rs p s
+set_kept_to [] i p s h = let l = h.0 in absurd (omega arith)
+set_kept_to (r ∷ rs) zero p s h = sym (cond-true (same_statement r.statement s) _ _ h.1)
+set_kept_to (r ∷ rs) (suc i) p s h =
+    ap (λ (zs : List Row). r ∷ zs) (set_kept_to rs i p s (let l = h.0 in omega arith, h.1, λ k l. h.2 (suc k) (omega arith)))
     ∙ sym (cond-false (same_statement r.statement s) _ _ (h.2 0 (omega arith)))
 
 push_add_to : (rs : List Row) (p : ℕ) (s : Statement) → listed rs s ≡ false → rs ++ row_of s (with_member (of_bits 0) p) ∷ [] ≡ add_to rs p s
@@ -152,14 +165,19 @@ push_add_to (r ∷ rs) p s h =
     let parts = or_parts (same_statement r.statement s) (listed rs s) h in
     ap (λ (zs : List Row). r ∷ zs) (push_add_to rs p s parts.1) ∙ sym (cond-false (same_statement r.statement s) _ _ parts.0)
 
--- the same as the code has it: x and y are the row that it read, and m the set that it made
-pub put_there : (rs : List Row) (i p : ℕ) (m : ProcessSet) (x y : Row) (s : Statement)
+-- the same as the code has it: x is the row that it read, and m the set that it made
+pub put_there : (rs : List Row) (i p : ℕ) (m : ProcessSet) (x : Row) (s : Statement) → Found rs i s → x ≡ slice_index_or rs i x → m ≡ with_member x.signers p → slice_set rs i (row_of s m) ≡ add_to rs p s
+put_there rs i p m x s h read e =
+    ap (λ (k : ProcessSet). set rs i (row_of s k)) (e ∙ ap (λ (y : Row). with_member y.signers p) (get_or_read rs i x h.0 read no_row)) ∙ set_add_to rs i p s h
+
+-- the same where the code writes the set alone: x and y are the row that it read, and m the set that it made
+pub put_here : (rs : List Row) (i p : ℕ) (m : ProcessSet) (x y : Row) (s : Statement)
     → Found rs i s → x ≡ slice_index_or rs i x → y ≡ slice_index_or rs i y → m ≡ with_member x.signers p → slice_set rs i (row_of y.statement m) ≡ add_to rs p s
-put_there rs i p m x y s h read again e =
+put_here rs i p m x y s h read again e =
     ap₂ (λ (t : Statement) (k : ProcessSet). set rs i (row_of t k))
     (ap (λ (z : Row). z.statement) (get_or_read rs i y h.0 again no_row))
     (e ∙ ap (λ (z : Row). with_member z.signers p) (get_or_read rs i x h.0 read no_row))
-    ∙ set_add_to rs i p s h
+    ∙ set_kept_to rs i p s h
 
 pub put_new : (rs ts : List Row) (p : ℕ) (m : ProcessSet) (s : Statement) → listed rs s ≡ false → m ≡ with_member (of_bits 0) p → ts ≡ rs ++ row_of s m ∷ [] → ts ≡ add_to rs p s
 put_new rs ts p m s h e q = q ∙ ap (λ (k : ProcessSet). rs ++ row_of s k ∷ []) e ∙ push_add_to rs p s h

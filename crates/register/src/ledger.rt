@@ -7,7 +7,7 @@ use crate::attests::Attests;
 use crate::pair::{Pair, Statement};
 
 // Why a pair is not signed.
-#[derive(Clone, Copy)]
+#[derive(Clone, Copy, Debug, PartialEq, Eq)]
 pub enum Unsigned {
     ProcessAbove30,
     Full,

@@ -1,6 +1,6 @@
 // A statement, and a process that has signed it.
 
-#[derive(Clone, Copy, PartialEq, Eq)]
+#[derive(Clone, Copy, Debug, PartialEq, Eq)]
 pub struct Statement {
     // Any number: a register takes every statement.
     pub kind: u8,
@@ -8,7 +8,7 @@ pub struct Statement {
     pub value: u16,
 }
 
-#[derive(Clone, Copy, PartialEq, Eq)]
+#[derive(Clone, Copy, Debug, PartialEq, Eq)]
 pub struct Pair {
     pub process: u8,
     pub statement: Statement,

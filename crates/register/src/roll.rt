@@ -8,7 +8,8 @@ use crate::ledger::{Register, Unsigned, admits};
 use crate::pair::{Pair, Statement};
 use std::alloc::{AllocError, Global};
 
-// A list and not a set, which would not keep the order of signing. The memory for all pairs is taken when the roll is made.
+// A list and not a set: the order of signing stays, and a count of signers walks it all the same. The memory for all pairs is
+// taken when the roll is made.
 #[derive(Drop)]
 pub struct Roll {
     pairs: Vec<Pair>,

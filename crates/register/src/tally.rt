@@ -13,11 +13,12 @@ use crate::row::Row;
 use committee::ProcessSet;
 use std::alloc::{AllocError, Global};
 
-// A list and not a map, which takes memory as it grows, and signing cannot fail for want of it: the memory for as many rows as
-// there is room for pairs is taken when the tally is made.
+// A list and not a map: the pairs that a register means are a list, and a map tells no order of its keys. The memory for as
+// many rows as there is room for pairs is taken when the tally is made.
 #[derive(Drop)]
 pub struct Tally {
     rows: Vec<Row>,
+    // How many pairs the rows stand for.
     held: usize,
     ghost few: { held ≤ 1024 },
     ghost short: { vec_len rows ≤ held },

@@ -1,7 +1,7 @@
 // What a record's certificate asks of the register. Two of the three cases hold nothing, so it is no Option.
 use register::Statement;
 
-#[derive(Clone, Copy)]
+#[derive(Clone, Copy, Debug, PartialEq, Eq)]
 pub enum Claim {
     // The record claims no certificate, so none is asked for.
     Nothing,

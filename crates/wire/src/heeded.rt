@@ -1,7 +1,7 @@
 // What is counted among the records that a process has heeded.
 use crate::kind::Kind;
 
-#[derive(Clone, Copy)]
+#[derive(Clone, Copy, Debug, PartialEq, Eq)]
 pub struct Heeded {
     // The process that heeded them.
     pub by: u8,

@@ -6,12 +6,10 @@ use crate::kind::Kind;
 use crate::record::Record;
 use crate::vouch::Vouch;
 use committee::Committee;
-use committee::views::LAST_VIEW;
+use committee::views::{LAST_EPOCH, LAST_VIEW};
 
 // No epoch follows the last that can be entered, so it cannot be completed.
 const LAST_COMPLETED: u32 = 65_534;
-
-const LAST_ENTERED: u32 = 65_535;
 
 impl Record {
     pub fn in_range(&self, committee: &Committee) -> bool
@@ -41,9 +39,9 @@ impl Record {
     {
         match self.kind {
             Kind::Disclose | Kind::AllowAny | Kind::Certificate => self.number == 0,
-            Kind::EpochCompleted => 1 <= self.number && self.number <= LAST_COMPLETED,
-            Kind::EnterEpoch => 1 <= self.number && self.number <= LAST_ENTERED,
-            _ => 1 <= self.number && self.number <= LAST_VIEW,
+            Kind::EpochCompleted => (1..=LAST_COMPLETED).contains(&self.number),
+            Kind::EnterEpoch => (1..=LAST_EPOCH).contains(&self.number),
+            _ => (1..=LAST_VIEW).contains(&self.number),
         }
     }
 

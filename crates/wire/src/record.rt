@@ -3,7 +3,7 @@ use crate::kind::Kind;
 use crate::vouch::Vouch;
 use committee::ProcessSet;
 
-#[derive(Clone, Copy)]
+#[derive(Clone, Copy, Debug, PartialEq, Eq)]
 pub struct Record {
     pub sender: u8,
     pub kind: Kind,

@@ -1,5 +1,5 @@
 // What a record costs, and to which epoch that is charged.
-ghost use Rattle.std.specs.Prelude.{◌≡◌, true, false, MatchResult};
+ghost use Rattle.std.specs.Prelude.{◌≡◌, ◌≤◌, true, false, MatchResult};
 ghost use Rattle.refusals.specs.declared.causes.Refusal.TheVariants.{FieldOutOfRange};
 ghost use Rattle.wire.specs.Words.{words_of, epoch_in, no_epoch};
 
@@ -11,7 +11,8 @@ use refusals::Refusal;
 impl Record {
     // One word for each process that the record goes to.
     pub fn words(&self) -> u32
-        ensures { result ≡ words_of self.now }
+        ensures value { result ≡ words_of self.now }
+        ensures few { result ≤ 32 }
     {
         self.to.len()
     }

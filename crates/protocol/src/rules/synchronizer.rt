@@ -2,7 +2,7 @@
 ghost use Rattle.std.specs.Prelude.{◌≡◌};
 ghost use Rattle.protocol.specs.Plans.{later};
 ghost use Rattle.protocol.specs.Steps.{moves_on};
-ghost use Rattle.protocol.specs.Synchronizing.{on_view_expiry, awaiting, on_epoch_completed, on_enter_epoch, on_spread_expiry};
+ghost use Rattle.protocol.specs.Synchronizing.{view_here, on_view_expiry, awaiting, on_epoch_completed, on_enter_epoch, on_spread_expiry};
 
 use crate::process::Process;
 use crate::seat::{Delivery, Seat};
@@ -10,6 +10,15 @@ use crate::step::Step;
 use wire::Kind;
 
 impl Seat {
+    // The view at a place of the process's epoch.
+    pub fn view_here(&self, place: u8) -> u32
+        ensures { result ≡ view_here self.now.setting self.now.process place }
+    {
+        // A seat's epoch is 65,535 at most, so the cast changes no number.
+        let epoch = self.process.synchronizer.epoch as u16;
+        self.setting.committee.view_at(epoch, place)
+    }
+
     // The clock goes on.
     pub fn on_tick(&self, ticks: u32) -> Step
         ensures { result ≡ moves_on (later self.now.process ticks) }
@@ -33,11 +42,7 @@ impl Seat {
         }
         process.synchronizer.place += 1;
         process.synchronizer.due = process.synchronizer.clock + self.view_ticks();
-        // A seat's epoch is 65,535 at most, so the cast changes no number; so is it below.
-        let view = self.setting.committee.view_at(
-            process.synchronizer.epoch as u16,
-            process.synchronizer.place,
-        );
+        let view = self.view_here(process.synchronizer.place);
         let entry = process.enter(view, self.number, leader);
         Step::moves(process, entry)
     }
@@ -51,10 +56,7 @@ impl Seat {
         process.synchronizer.place = 1;
         process.synchronizer.spread = 0;
         process.synchronizer.due = process.synchronizer.clock + self.view_ticks();
-        let view = self
-            .setting
-            .committee
-            .view_at(process.synchronizer.epoch as u16, 1);
+        let view = self.view_here(1);
         let entry = process.enter(view, self.number, leader);
         Step::moves_twice(process, told, entry)
     }

@@ -20,7 +20,7 @@ impl Seat {
         } else {
             (best.value, Vouch::Nothing)
         };
-        process.core.lead = 1;
+        process.core.lead = Ballot::Prepare.phase();
         process.core.led = value;
         let proposal = Record {
             back: best.view,
