@@ -1,6 +1,7 @@
 // A sitting on a new board: the line of its opening, its moves, and what stands at its end.
 ghost use Rattle.std.specs.Prelude.{◌≡◌, [], ◌++◌, length, string_bytes, OnOk};
 ghost use Rattle.std.specs.Option.{option_map};
+ghost use Rattle.committee.specs.Sets.{of_bits};
 ghost use Rattle.player.specs.Outcomes.{line_of};
 ghost use Rattle.exam.specs.Schedules.{ending, Behind};
 ghost use Rattle.exam.specs.Sitting.{lines_on, leads_by, OpensNamed, ShowsBy};
@@ -59,6 +60,15 @@ fn write_ending(table: &Table, fault: Option<Fault>, text: &mut String) -> fmt::
     }
 }
 
+// The faulty processes that OPEN names.
+fn faulty_of(opening: Opening<'_>) -> ProcessSet
+    ensures { result ≡ of_bits opening.entry.faulty }
+{
+    ProcessSet {
+        bits: opening.faulty,
+    }
+}
+
 // Opens the board that OPEN asks for. The number of the register is tested last.
 fn open_named<R: Rota + Drop, G: Register>(
     opening: Opening<'_>,
@@ -67,12 +77,9 @@ fn open_named<R: Rota + Drop, G: Register>(
 ) -> Result<Board<R>, Refusal>
     ensures { OpensNamed R.Rota opening.entry rota (length (G.Register.pairs register.now)) result }
 {
-    let faulty = ProcessSet {
-        bits: opening.faulty,
-    };
     let board = open(
         opening.f,
-        faulty,
+        faulty_of(opening),
         opening.delay,
         opening.overlap,
         rota,
@@ -92,7 +99,7 @@ impl Rest<'_> {
     ) -> fmt::Result
         ensures { OnOk result (string_bytes text.new ≡ string_bytes text.old ++ lines_on R.Rota G.Register board register.old self.entry) }
     {
-        // An array, since a wire takes no memory.
+        // Fixed memory, as any wire that a board is lent.
         let mut wire = [NO_RECORD; 1024];
         write_opening(Outcome::Opened(board.table.setting.committee.n), text)?;
         play(&mut board, &mut wire, register, self.moves, text)?;

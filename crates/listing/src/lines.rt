@@ -8,7 +8,7 @@ ghost use Rattle.listing.specs.Lines.{move_line, fault_line, listing};
 
 use moves::{Fault, Placed};
 use schedule::{Stop, read};
-use std::alloc::Global;
+use std::alloc::{AllocError, Global};
 use std::fmt;
 
 // Appends a line for each move.
@@ -36,7 +36,7 @@ pub fn write_fault(fault: Option<Fault>, text: &mut String) -> fmt::Result
 pub fn read_to_fault<'a>(
     bytes: &'a [u8],
     moves: &mut Vec<Placed<'a>>,
-) -> Result<Option<Fault>, fmt::Error>
+) -> Result<Option<Fault>, AllocError>
     ensures moves { OnOk result (Appends moves.old.items moves.new.items (reading bytes.now).moves) }
     ensures fault { IfOk result (λ fault. (reading bytes.now).fault ≡ fault) }
     ensures laid { LaidOut bytes.now }
@@ -44,7 +44,7 @@ pub fn read_to_fault<'a>(
     match read(bytes, moves) {
         Ok(()) => Ok(None),
         Err(Stop::Fault(fault)) => Ok(Some(fault)),
-        Err(Stop::NoMemory) => Err(fmt::Error),
+        Err(Stop::NoMemory) => Err(AllocError),
     }
 }
 

@@ -6,7 +6,7 @@ ghost use Rattle.std.specs.Prelude.{◌≡◌, Some, not, ◌&&◌, ◌||◌, le
 ghost use Rattle.std.specs.List.{list_all};
 ghost use Rattle.hexadecimal.specs.Bytes as hexadecimal;
 
-use anyhow::anyhow;
+use anyhow::bail;
 use listing::list;
 use std::alloc::{AllocError, Global};
 
@@ -42,7 +42,7 @@ fn main(rt: HostRuntime) -> anyhow::Result<()> {
         println!(rt; "{line}")?;
         if is_schedule(line.as_bytes()) {
             let Some(bytes) = bytes_of(rt.alloc(), line.as_bytes())? else {
-                return Err(anyhow!("a line is neither a comment nor hexadecimal"));
+                bail!("a line is neither a comment nor hexadecimal");
             };
             let mut text = String::new(rt.alloc());
             list(rt.alloc(), bytes.as_slice(), &mut text)?;

@@ -9,7 +9,7 @@ pub enum Layer {
     Move,
 }
 
-#[derive(Clone, Copy, Debug)]
+#[derive(Clone, Copy, Debug, PartialEq, Eq)]
 pub struct Fault {
     pub cause: Refusal,
     // The place of the faulty field's tag, counted from 0.

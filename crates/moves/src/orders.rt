@@ -5,7 +5,7 @@ pub struct Opening<'a> {
     // 1 for the tally and 2 for the roll; any other number is refused when the board opens, and not here.
     pub register: u8,
     pub f: u8,
-    // The faulty processes, as bits.
+    // The faulty processes, as bits: this crate knows no committee, and so no set of its members.
     pub faulty: u32,
     // The small delta: how long a message takes at most, once the network has settled.
     pub delay: u32,
@@ -21,7 +21,7 @@ pub struct Injection {
     pub sender: u8,
     // Kind and vouch are numbers, as the schedule holds them: those that name none are refused when the record is made.
     pub kind: u8,
-    // The receivers, as bits.
+    // The receivers, as bits likewise.
     pub to: u32,
     pub number: u32,
     pub value: u16,

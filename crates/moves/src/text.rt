@@ -111,8 +111,6 @@ impl fmt::Display for Fault {
     ghost output = { λ fault. Some (fault_text fault) };
 
     fn fmt<W: fmt::Write>(&self, f: &mut fmt::Formatter<W>) -> fmt::Result {
-        let number = u8::from(self.cause);
-        let byte = self.byte;
-        write!(f, "fault {number} {byte}")
+        write!(f, "fault {} {}", self.cause, self.byte)
     }
 }

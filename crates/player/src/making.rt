@@ -15,7 +15,7 @@ use refusals::Refusal;
 use register::Register;
 use wire::Record;
 
-// Neither type is this crate's, so this is no `From`.
+// The crates of the two types do not know one another, so that schedules are cut apart from the protocol: this is no `From`.
 fn draft_of(injection: Injection) -> Draft
     ensures { result ≡ drafted injection.kind injection.to injection.number injection.value injection.back injection.vouch }
 {

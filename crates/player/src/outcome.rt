@@ -2,7 +2,7 @@
 use protocol::Answer;
 use refusals::Refusal;
 
-#[derive(Clone, Copy)]
+#[derive(Clone, Copy, Debug, PartialEq, Eq)]
 pub enum Outcome {
     // A board for so many processes.
     Opened(u8),

@@ -26,7 +26,8 @@ fn write_process(number: usize, process: &Process, text: &mut String) -> fmt::Re
 pub fn write_processes(table: &Table, text: &mut String) -> fmt::Result
     ensures { OnOk result (string_bytes text.new ≡ string_bytes text.old ++ process_lines 0 (take table.now.setting.committee.n table.now.processes)) }
 {
-    let members = &table.processes[..usize::from(table.setting.committee.n)];
+    let members = table.members();
+    // Numbered by `enumerate`, and so as `usize`: over `(0..n).zip(members)` the proof did not close.
     for (number, process) in members.iter().enumerate() {
         write_process(number, process, text)?;
     }

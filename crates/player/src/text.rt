@@ -29,7 +29,7 @@ impl fmt::Display for Outcome {
             Outcome::Answered(Answer::Dropped) => write!(f, "dropped 0"),
             Outcome::Answered(Answer::Heeded) => write!(f, "heeded 0"),
             Outcome::Answered(Answer::Acted(appended)) => write!(f, "acted {appended}"),
-            Outcome::Refused(cause) => write!(f, "refused {}", u8::from(*cause)),
+            Outcome::Refused(cause) => write!(f, "refused {cause}"),
         }
     }
 }

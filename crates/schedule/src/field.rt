@@ -6,12 +6,13 @@ use moves::{Fault, Layer};
 use refusals::Refusal;
 
 // The tag and the two bytes of the length stand before the content.
-const HEAD: usize = 3;
+pub(crate) const HEAD: usize = 3;
 
-#[derive(Clone, Copy)]
+#[derive(Clone, Copy, Debug, PartialEq, Eq)]
 pub struct Field<'a> {
     // The place of the tag in the schedule.
     pub byte: usize,
+    // A number, since any byte may stand there: the move layer says what it stands for.
     pub tag: u8,
     // The part of the schedule behind the tag and the length.
     pub content: &'a [u8],

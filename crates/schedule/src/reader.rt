@@ -5,7 +5,7 @@ ghost use Rattle.schedule.specs.Reading.{ReadsOne};
 use super::tagged::Tagged;
 use moves::{Fault, Placed};
 
-#[derive(Clone, Copy)]
+#[derive(Clone, Copy, Debug, PartialEq, Eq)]
 pub struct Reader<'a> {
     bytes: &'a [u8],
     // The place behind what was read.

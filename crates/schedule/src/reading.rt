@@ -9,7 +9,7 @@ use moves::{Fault, Placed};
 use std::alloc::AllocFailed;
 
 // Why reading stopped before the end of the schedule.
-#[derive(Clone, Copy, Debug)]
+#[derive(Clone, Copy, Debug, PartialEq, Eq)]
 pub enum Stop {
     Fault(Fault),
     NoMemory,

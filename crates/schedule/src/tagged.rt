@@ -4,14 +4,11 @@ ghost use Rattle.schedule.specs.Fields.{behind_at, known, move_fault, IsTagged};
 ghost use Rattle.schedule.specs.Moves.{Makes, made_at, open_at};
 
 use super::contents::{later_order, opening};
-use super::field::{Field, field_at};
+use super::field::{Field, HEAD, field_at};
 use super::numbers::byte_at;
 use super::tags::Tag;
 use moves::{Fault, Layer, Move};
 use refusals::Refusal;
-
-// The byte that is ROTA's tag.
-const ROTA: u8 = 0x02;
 
 // A field, and the schedule in which it stands.
 #[derive(Clone, Copy)]
@@ -66,7 +63,7 @@ impl<'a> Tagged<'a> {
     fn end(&self) -> usize
         ensures { result ≡ behind_at self.now.schedule.now self.now.field.byte }
     {
-        self.field.byte + 3 + self.field.content.len()
+        self.field.byte + HEAD + self.field.content.len()
     }
 
     fn is_first(&self) -> bool
@@ -81,7 +78,7 @@ impl<'a> Tagged<'a> {
     {
         let content = self.field.content;
         let end = self.end();
-        if byte_at(self.schedule, end) != ROTA {
+        if Tag::try_from(byte_at(self.schedule, end)) != Ok(Tag::Rota) {
             return Ok((Move::Open(opening(content, None)), end));
         }
         let rota = Tagged::at(self.schedule, end)?;

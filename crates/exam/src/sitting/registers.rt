@@ -4,7 +4,7 @@ ghost use Rattle.exam.specs.Registers.{register_named};
 
 use refusals::Refusal;
 
-#[derive(Clone, Copy)]
+#[derive(Clone, Copy, Debug, PartialEq, Eq)]
 pub(super) enum RegisterKind {
     Tally,
     Roll,

@@ -9,8 +9,8 @@ ghost use Rattle.exam.specs.Schedules.{leads_of, rota_size, Behind, SitsFrom, Si
 ghost use Rattle.exam.specs.Sitting.{ShowsBy};
 
 use super::registers::RegisterKind;
-use super::{Rest, write_opening};
-use committee::{Committee, ListRota, ProcessSet, Rota, TurnRota};
+use super::{Rest, faulty_of, write_opening};
+use committee::{Committee, ListRota, Rota, TurnRota};
 use listing::{read_to_fault, write_fault};
 use moves::{Fault, Move, Opening, Placed};
 use player::Outcome;
@@ -38,10 +38,7 @@ impl Rest<'_> {
         requires { G.Register.pairs register.old ≡ [] }
         ensures { OnOk result (Behind (ShowsBy (leads_of (size_for opening.entry.f) (option_map (λ list. list.now) opening.entry.rota)) G.Register.ROOM opening.entry (rota_size (size_for opening.entry.f) (option_map (λ list. list.now) opening.entry.rota)) self.entry) (string_bytes text.old) (string_bytes text.new)) }
     {
-        let faulty = ProcessSet {
-            bits: opening.faulty,
-        };
-        let committee = match Committee::new(opening.f, faulty) {
+        let committee = match Committee::new(opening.f, faulty_of(opening)) {
             Ok(committee) => committee,
             Err(cause) => return write_opening(Outcome::Refused(cause), text),
         };

@@ -18,6 +18,7 @@ use wire::Record;
 const SECOND_MOVE: usize = 2;
 
 // Plays the moves on an open board, whatever each of them is answered, and appends a line for each.
+// Board, wire and register go one by one, as each call is lent them.
 pub fn play<R: Rota, G: Register>(
     board: &mut Board<R>,
     wire: &mut [Record],
