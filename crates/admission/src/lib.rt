@@ -6,5 +6,5 @@ pub mod seating;
 pub mod taking;
 
 pub use scene::Scene;
-pub use seating::{find_order, in_order};
+pub use seating::{find_order, find_room, in_order};
 pub use taking::{admit, is_stale};

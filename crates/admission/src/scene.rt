@@ -6,6 +6,7 @@ ghost use Rattle.admission.specs.Seating.{Seated};
 use protocol::{Seat, Table};
 use wire::Record;
 
+// Its methods stand in seating.rt: their contracts name definitions that name this struct, which its own file may not import.
 #[derive(Clone, Copy)]
 pub struct Scene<'a> {
     pub table: &'a Table,

@@ -1,6 +1,7 @@
 // What every move on a board is tested for: the board, the process, and room for what is appended.
 ghost use Rattle.std.specs.Prelude.{◌≡◌, ◌<◌, true, take};
 ghost use Rattle.committee.specs.Sets.{contains};
+ghost use Rattle.protocol.specs.Moments.{moment, signed_of};
 ghost use Rattle.protocol.specs.Ranges.{table_fits};
 ghost use Rattle.admission.specs.Seating.{in_order, FindsOrder, Seated};
 ghost use Rattle.admission.specs.Scenes.{shown, Sets, SetsCorrect, FindsRoom};
@@ -23,7 +24,7 @@ pub fn in_order<R: Rota>(board: &Board<R>, wire: &[Record]) -> bool
     fitting && board.table.in_range() && board.table.wire_in_range(wire)
 }
 
-// They have to be.
+// The same as a test that refuses.
 pub fn find_order<R: Rota>(board: &Board<R>, wire: &[Record]) -> Result<(), Refusal>
     ensures { FindsOrder (R.Rota.size board.now.rota) board.now.table wire.now result }
 {
@@ -43,6 +44,19 @@ fn seated(table: &Table, process: u8) -> Seat
         number: process,
         process: table.processes[usize::from(process)],
     }
+}
+
+// Two records are free, and the register takes one more pair.
+pub fn find_room<G: Register>(table: &Table, wire: &[Record], register: &G) -> Result<(), Refusal>
+    ensures { FindsRoom G.Register.ROOM (moment table.now wire.now (signed_of (G.Register.pairs register.now))) result }
+{
+    if wire.len().min(LONGEST_WIRE) < usize::from(table.used) + 2 {
+        return Err(Refusal::WireFull);
+    }
+    if register.held() == G::ROOM {
+        return Err(Refusal::RegisterFull);
+    }
+    Ok(())
 }
 
 impl<'a> Scene<'a> {
@@ -98,16 +112,10 @@ impl<'a> Scene<'a> {
         &self.wire[..usize::from(self.table.used)]
     }
 
-    // Two records are free, and the register takes one more pair.
+    // The same of its wire.
     pub fn find_room<G: Register>(&self, register: &G) -> Result<(), Refusal>
         ensures { FindsRoom G.Register.ROOM (shown self.now (G.Register.pairs register.now)) result }
     {
-        if self.wire.len().min(LONGEST_WIRE) < usize::from(self.table.used) + 2 {
-            return Err(Refusal::WireFull);
-        }
-        if register.held() == G::ROOM {
-            return Err(Refusal::RegisterFull);
-        }
-        Ok(())
+        find_room(self.table, self.wire, register)
     }
 }

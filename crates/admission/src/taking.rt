@@ -12,7 +12,7 @@ use wire::{Kind, Record};
 fn is_of_one_view(kind: Kind) -> bool
     ensures { result ≡ of_one_view kind }
 {
-    Kind::ViewChange <= kind && kind <= Kind::CommitVote
+    (Kind::ViewChange..=Kind::CommitVote).contains(&kind)
 }
 
 // The kinds of certification go to whoever has proposed, the others to whoever runs; and no view is ahead of the process.

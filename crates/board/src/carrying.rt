@@ -1,4 +1,5 @@
-// Carrying out a step, for every move: nothing else writes to a board, a wire or a register.
+// Carrying out a step, for every move: nothing else writes to a board, a wire or a register. These are lent one by one, as
+// calls lend them: a struct of three loans would have to say of each that it ends as what it was lent from.
 ghost use Rattle.std.specs.Prelude.{◌≡◌, ◌<◌, ◌≤◌, true, length, is_some, Ok, ◌≢◌};
 ghost use Rattle.wire.specs.Shares.{share_of};
 ghost use Rattle.protocol.specs.Moments.{moment, signed_of, with_share, appended, done, marked};
@@ -6,7 +7,7 @@ ghost use Rattle.protocol.specs.Ready.{Doable};
 
 pub mod moves;
 
-use protocol::{Step, Table};
+use protocol::{Answer, Step, Table};
 use register::{Pair, Register};
 use wire::Record;
 
@@ -24,8 +25,7 @@ fn sign_share<G: Register>(register: &mut G, sent: &Record)
     }
 }
 
-// Writes a record behind the used ones, and signs its share. Table, wire and register come one by one, here and below: a
-// struct of three `&mut` would have to say of each that it ends as what it was lent from.
+// Writes a record behind the used ones, and signs its share.
 fn append<G: Register>(table: &mut Table, wire: &mut [Record], register: &mut G, sent: Record)
     requires within { table.old.used < length wire.old }
     requires capped { table.old.used < 65535 }
@@ -38,16 +38,17 @@ fn append<G: Register>(table: &mut Table, wire: &mut [Record], register: &mut G,
     sign_share(register, &sent);
 }
 
-// The process takes its new fields, and the step's records are appended.
+// The process takes its new fields, and the step's records are appended; what the step answers is handed on.
 fn carry_out<G: Register>(
     table: &mut Table,
     wire: &mut [Record],
     register: &mut G,
     process: u8,
-    step: &Step,
-)
-    requires { Doable G.Register.ROOM process (moment table.old wire.old (signed_of (G.Register.pairs register.old))) (Ok step.now) }
-    ensures { moment table.new wire.new (signed_of (G.Register.pairs register.new)) ≡ done process step.now (moment table.old wire.old (signed_of (G.Register.pairs register.old))) }
+    step: Step,
+) -> Answer
+    requires { Doable G.Register.ROOM process (moment table.old wire.old (signed_of (G.Register.pairs register.old))) (Ok step) }
+    ensures leaves { moment table.new wire.new (signed_of (G.Register.pairs register.new)) ≡ done process step (moment table.old wire.old (signed_of (G.Register.pairs register.old))) }
+    ensures answers { result ≡ step.answer }
 {
     table.processes[usize::from(process)] = step.process;
     if let Some(sent) = step.first {
@@ -56,6 +57,7 @@ fn carry_out<G: Register>(
     if let Some(sent) = step.second {
         append(table, wire, register, sent);
     }
+    step.answer
 }
 
 // The process has got the record, and has heeded it or not.

@@ -5,6 +5,7 @@ ghost use Rattle.protocol.specs.Moments.{record_at};
 use admission::Scene;
 use protocol::Delivery;
 
+// Its methods stand in deliveries.rt: their contracts name a definition that names this struct, which its own file may not import.
 #[derive(Clone, Copy)]
 pub(crate) struct Arrival<'a> {
     pub(crate) scene: Scene<'a>,

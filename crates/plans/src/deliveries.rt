@@ -45,45 +45,46 @@ impl<'a> Arrival<'a> {
         let record = delivery.delivered;
         let process = delivery.seat.number;
         let used = self.scene.used();
-        let any = Heeded {
+        let asked = |value: Option<u16>| Heeded {
             by: process,
             kind: record.kind,
             number: record.number,
-            value: None,
+            value,
         };
-        let same = Heeded {
-            by: process,
-            kind: record.kind,
-            number: record.number,
-            value: Some(record.value),
-        };
+        let heard = |value: Option<u16>| from_senders(used, &asked(value), record.sender);
+        let holds = || record.holds(&delivery.seat.setting.committee, register);
         let leader = rota.leader(record.number);
         let first = rota.leader(1);
-        let holds = record.holds(&delivery.seat.setting.committee, register);
-        let from = from_senders(used, &any, record.sender);
-        let from_same = from_senders(used, &same, record.sender);
         // The list reads as the rule book does: each kind has one rule, which asks for facts of its own.
         match record.kind {
-            Kind::Disclose => delivery.on_disclose(from_same, from, first),
-            Kind::AllowAny => delivery.on_allow_any(from, first),
-            Kind::Certificate => delivery.on_certificate(holds, first),
-            Kind::EpochCompleted => delivery.on_epoch_completed(from),
-            Kind::EnterEpoch => delivery.on_enter_epoch(holds),
+            Kind::Disclose => delivery.on_disclose(heard(Some(record.value)), heard(None), first),
+            Kind::AllowAny => delivery.on_allow_any(heard(None), first),
+            Kind::Certificate => delivery.on_certificate(holds(), first),
+            Kind::EpochCompleted => delivery.on_epoch_completed(heard(None)),
+            Kind::EnterEpoch => delivery.on_enter_epoch(holds()),
             Kind::ViewChange => {
-                let best = best_backing(used, &any, usize::from(self.index));
-                delivery.on_view_change(leader == process, holds, from, best)
+                let best = best_backing(used, &asked(None), usize::from(self.index));
+                delivery.on_view_change(leader == process, holds(), heard(None), best)
             }
-            Kind::Prepare => delivery.on_prepare(holds, leader),
-            Kind::PrepareVote => delivery.on_vote(Ballot::Prepare, leader == process, from_same),
-            Kind::Precommit => delivery.on_quorum(Stage::Precommit, holds, leader),
+            Kind::Prepare => delivery.on_prepare(holds(), leader),
+            Kind::PrepareVote => delivery.on_vote(
+                Ballot::Prepare,
+                leader == process,
+                heard(Some(record.value)),
+            ),
+            Kind::Precommit => delivery.on_quorum(Stage::Precommit, holds(), leader),
             Kind::PrecommitVote => delivery.on_vote(
                 Ballot::Precommit,
                 leader == process,
-                from_same,
+                heard(Some(record.value)),
             ),
-            Kind::Commit => delivery.on_quorum(Stage::Commit, holds, leader),
-            Kind::CommitVote => delivery.on_vote(Ballot::Commit, leader == process, from_same),
-            Kind::Decide => delivery.on_decide(holds),
+            Kind::Commit => delivery.on_quorum(Stage::Commit, holds(), leader),
+            Kind::CommitVote => delivery.on_vote(
+                Ballot::Commit,
+                leader == process,
+                heard(Some(record.value)),
+            ),
+            Kind::Decide => delivery.on_decide(holds()),
         }
     }
 

@@ -1,7 +1,8 @@
 // The moves that a process makes of its own: propose, tick and expire, and inject for a faulty one.
+// Board, wire and register come one by one: the calls are lent them so, and each plan makes a scene of the first two at once.
 ghost use Rattle.std.specs.Prelude.{◌≡◌};
 ghost use Rattle.protocol.specs.Moments.{moment, signed_of};
-ghost use Rattle.protocol.specs.Plans.{tick_plan, propose_plan, is_due, deadline_of, view_expiry, spread_expiry, expiry, expire_plan, inject_plan};
+ghost use Rattle.protocol.specs.Plans.{tick_plan, propose_plan, is_due, deadline_of, expiry, expire_plan, inject_plan};
 ghost use Rattle.plans.specs.Timers.{timer_number};
 
 use crate::timer::Timer;
@@ -27,7 +28,7 @@ pub fn plan_tick<R: Rota, G: Register>(
     ensures { result ≡ tick_plan (R.Rota.size board.now.rota) (moment board.now.table wire.now (signed_of (G.Register.pairs register.now))) process ticks }
 {
     let scene = Scene::of_correct(board, wire, process)?;
-    if ticks < 1 || ticks > MOST_TICKS {
+    if !(1..=MOST_TICKS).contains(&ticks) {
         return Err(Refusal::FieldOutOfRange);
     }
     if scene.seat.process.synchronizer.clock + u64::from(ticks) > LAST_TICK {
@@ -68,37 +69,21 @@ fn is_due(process: &Process, timer: Timer) -> bool
     0 < deadline && deadline <= at.clock
 }
 
-// The view timer has expired, unless no epoch follows.
-fn expire_view<R: Rota>(rota: &R, scene: &Scene<'_>) -> Result<Step, Refusal>
-    ensures { result ≡ view_expiry (R.Rota.leader rota.now) scene.now.table.now scene.now.seat.number }
-{
-    let seat = scene.seat;
-    let at = seat.process.synchronizer;
-    let committee = seat.setting.committee;
-    if at.place > committee.f && at.epoch == LAST_EPOCH {
-        return Err(Refusal::LastEpoch);
-    }
-    // A seat's epoch is 65 535 at most, so the cast changes nothing.
-    let next = committee.view_at(at.epoch as u16, at.place + 1);
-    Ok(seat.on_view_expiry(rota.leader(next)))
-}
-
-fn expire_spread<R: Rota>(rota: &R, scene: &Scene<'_>) -> Step
-    ensures { result ≡ spread_expiry (R.Rota.leader rota.now) scene.now.table.now scene.now.seat.number }
-{
-    let seat = scene.seat;
-    // The same holds here.
-    let epoch = seat.process.synchronizer.epoch as u16;
-    let first = seat.setting.committee.view_at(epoch, 1);
-    seat.on_spread_expiry(rota.leader(first))
-}
-
+// The timer has expired; where no epoch follows, the view timer of an epoch's last view may not.
 fn expired<R: Rota>(rota: &R, scene: &Scene<'_>, timer: Timer) -> Result<Step, Refusal>
     ensures { result ≡ expiry (R.Rota.leader rota.now) scene.now.table.now scene.now.seat.number (timer_number timer) }
 {
+    let seat = scene.seat;
+    let at = seat.process.synchronizer;
     match timer {
-        Timer::View => expire_view(rota, scene),
-        Timer::Spread => Ok(expire_spread(rota, scene)),
+        Timer::View => {
+            if at.place > seat.setting.committee.f && at.epoch == LAST_EPOCH {
+                return Err(Refusal::LastEpoch);
+            }
+            let next = seat.view_here(at.place + 1);
+            Ok(seat.on_view_expiry(rota.leader(next)))
+        }
+        Timer::Spread => Ok(seat.on_spread_expiry(rota.leader(seat.view_here(1)))),
     }
 }
 
@@ -135,9 +120,7 @@ pub fn plan_inject<R: Rota, G: Register>(
     if !scene.is_faulty() {
         return Err(Refusal::WrongSide);
     }
-    let Some(record) = draft.record(process) else {
-        return Err(Refusal::FieldOutOfRange);
-    };
+    let record = draft.record(process)?;
     if !record.in_range(&scene.seat.setting.committee) {
         return Err(Refusal::FieldOutOfRange);
     }

@@ -3,7 +3,7 @@ ghost use Rattle.plans.specs.Timers.{Numbers};
 
 use refusals::Refusal;
 
-#[derive(Clone, Copy)]
+#[derive(Clone, Copy, Debug, PartialEq, Eq)]
 pub(crate) enum Timer {
     View,
     Spread,

@@ -11,21 +11,13 @@ use protocol::ranges::LAST_EPOCH;
 use refusals::Refusal;
 use wire::Record;
 
-// A correct process sent the record, and it belongs to the epoch.
-fn is_charged(sent: &Record, committee: &Committee, epoch: u32) -> bool
-    ensures { result ≡ (not (no_epoch sent.now) && is_charged committee.now epoch sent.now) }
-{
-    sent.epoch(committee) == Ok(epoch) && !committee.faulty.contains(sent.sender)
-}
-
-// What the record adds to the words of the epoch.
+// What the record adds to the words of the epoch: it counts if a correct process sent it and it belongs to the epoch.
 fn charge(sent: &Record, committee: &Committee, epoch: u32) -> u32
     ensures value { result ≡ charge committee.now epoch sent.now }
     ensures few { result ≤ 32 }
 {
-    if is_charged(sent, committee, epoch) {
-        // Its words, counted here since the bits of a number bound the sum.
-        sent.to.bits.count_ones()
+    if sent.epoch(committee) == Ok(epoch) && !committee.faulty.contains(sent.sender) {
+        sent.words()
     } else {
         0
     }
@@ -47,7 +39,7 @@ pub fn words<R: Rota>(board: &Board<R>, wire: &[Record], epoch: u32) -> Result<u
     if epoch > LAST_EPOCH {
         return Err(Refusal::FieldOutOfRange);
     }
-    let used = &wire[0..usize::from(board.table.used)];
+    let used = &wire[..usize::from(board.table.used)];
     Ok(charged(used, &board.table.setting.committee, epoch))
 }
 
@@ -66,7 +58,7 @@ pub fn leader<R: Rota>(board: &Board<R>, wire: &[Record], view: u32) -> Result<u
     ensures { result ≡ leader_answer (R.Rota.leader board.now.rota) (R.Rota.size board.now.rota) board.now.table wire.now view }
 {
     find_order(board, wire)?;
-    let (_epoch, _place) = board.table.setting.committee.epoch_place(view)?;
+    board.table.setting.committee.epoch_place(view)?;
     Ok(board.rota.leader(view))
 }
 

@@ -23,6 +23,7 @@ fn first_decided(members: &[Process], committee: &Committee) -> Option<u16>
     requires { length members.now ≤ 31 }
     ensures { result ≡ first_decided committee.now 0 members.now }
 {
+    // Counted by a range of bytes beside the members, the proof did not close.
     for (number, process) in members.iter().enumerate() {
         // There are 31 members at most, so the cast changes no number.
         if has_decided(process, number as u8, committee) {
@@ -44,6 +45,5 @@ pub fn decision<R: Rota, G: Register>(
 {
     find_order(board, wire)?;
     let committee = board.table.setting.committee;
-    let members = &board.table.processes[0..usize::from(committee.n)];
-    Ok(first_decided(members, &committee))
+    Ok(first_decided(board.table.members(), &committee))
 }

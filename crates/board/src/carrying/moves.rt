@@ -1,6 +1,5 @@
 // The five moves on a board. Each is one function of the sitting, the board with its wire and its register: contracts say
 // which board, wire, register and answer follow, and that a sitting that is a run goes on as one, with all that is promised.
-// The three are lent one by one: a caller that took its board back out of a struct of loans would know nothing of it.
 ghost use Rattle.protocol.specs.Runs.{sitting, Ticks, Proposes, Expires, Delivers, Injects};
 ghost use Rattle.safety.specs.Promises.{Keeps};
 
@@ -24,8 +23,7 @@ pub fn propose<R: Rota, G: Register>(
     ensures keeps { Keeps R.Rota G.Register (sitting board.old wire.old register.old) (sitting board.new wire.new register.new) }
 {
     let step = plan_propose(board, wire, register, process, value)?;
-    carry_out(&mut board.table, wire, register, process, &step);
-    Ok(step.answer)
+    Ok(carry_out(&mut board.table, wire, register, process, step))
 }
 
 // The process's clock goes on.
@@ -40,8 +38,7 @@ pub fn tick<R: Rota, G: Register>(
     ensures keeps { Keeps R.Rota G.Register (sitting board.old wire.old register.old) (sitting board.new wire.new register.new) }
 {
     let step = plan_tick(board, wire, register, process, ticks)?;
-    carry_out(&mut board.table, wire, register, process, &step);
-    Ok(step.answer)
+    Ok(carry_out(&mut board.table, wire, register, process, step))
 }
 
 // A timer that is due expires: 1 is the view timer, 2 the spread timer; a call may name any number, and is refused for the others.
@@ -56,8 +53,7 @@ pub fn expire<R: Rota, G: Register>(
     ensures keeps { Keeps R.Rota G.Register (sitting board.old wire.old register.old) (sitting board.new wire.new register.new) }
 {
     let step = plan_expire(board, wire, register, process, timer)?;
-    carry_out(&mut board.table, wire, register, process, &step);
-    Ok(step.answer)
+    Ok(carry_out(&mut board.table, wire, register, process, step))
 }
 
 // The record at this place of the wire is delivered to the process.
@@ -73,8 +69,7 @@ pub fn deliver<R: Rota, G: Register>(
 {
     let step = plan_deliver(board, wire, register, index, process)?;
     mark(wire, index, process, step.answer.is_heed());
-    carry_out(&mut board.table, wire, register, process, &step);
-    Ok(step.answer)
+    Ok(carry_out(&mut board.table, wire, register, process, step))
 }
 
 // A faulty process sends a record.
@@ -89,6 +84,5 @@ pub fn inject<R: Rota, G: Register>(
     ensures keeps { Keeps R.Rota G.Register (sitting board.old wire.old register.old) (sitting board.new wire.new register.new) }
 {
     let step = plan_inject(board, wire, register, process, draft)?;
-    carry_out(&mut board.table, wire, register, process, &step);
-    Ok(step.answer)
+    Ok(carry_out(&mut board.table, wire, register, process, step))
 }

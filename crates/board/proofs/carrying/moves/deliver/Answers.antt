@@ -25,4 +25,4 @@ pub returns-clause-keeps : goal.returns-clause-keeps
 returns-clause-keeps g c =
     let a = sitting c.args.board.now c.args.wire.now c.args.register.now in
     let planned : Ok c.in_ok-step.step ≡ deliver_plan (g.R.Rota.leader c.args.board.now.rota) (g.R.Rota.size c.args.board.now.rota) g.G.Register.ROOM (moment_of g.G.Register a) c.args.process c.args.index = search rules in
-    carried_marked g.R.Rota g.G.Register g.met.R.Rota.inside a _ _ c.in_ok-step.step _ planned refl _ _ _ c.is_heed.ensures c.mark.ensures c.carry_out.ensures (delivers c.args.index _ _)
+    carried_marked g.R.Rota g.G.Register g.met.R.Rota.inside a _ _ c.in_ok-step.step _ planned refl _ _ _ c.is_heed.ensures c.mark.ensures c.carry_out.ensures.leaves (delivers c.args.index _ _)

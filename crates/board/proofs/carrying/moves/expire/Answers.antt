@@ -19,4 +19,4 @@ pub returns-clause-keeps : goal.returns-clause-keeps
 returns-clause-keeps g c =
     let a = sitting c.args.board.now c.args.wire.now c.args.register.now in
     let planned : Ok c.in_ok-step.step ≡ expire_plan (g.R.Rota.leader c.args.board.now.rota) (g.R.Rota.size c.args.board.now.rota) g.G.Register.ROOM (moment_of g.G.Register a) c.args.process c.args.timer = search rules in
-    carried g.R.Rota g.G.Register g.met.R.Rota.inside a _ _ c.in_ok-step.step _ planned refl c.carry_out.ensures (expires _ c.args.timer _)
+    carried g.R.Rota g.G.Register g.met.R.Rota.inside a _ _ c.in_ok-step.step _ planned refl c.carry_out.ensures.leaves (expires _ c.args.timer _)

@@ -16,4 +16,4 @@ carry_out-requires g c =
 pub returns-clause-keeps : goal.returns-clause-keeps
 returns-clause-keeps g c =
     let a = sitting c.args.board.now c.args.wire.now c.args.register.now in
-    carried g.R.Rota g.G.Register g.met.R.Rota.inside a _ _ c.in_ok-step.step _ c.in_ok-step.ensures refl c.carry_out.ensures (proposes _ _ _)
+    carried g.R.Rota g.G.Register g.met.R.Rota.inside a _ _ c.in_ok-step.step _ c.in_ok-step.ensures refl c.carry_out.ensures.leaves (proposes _ _ _)

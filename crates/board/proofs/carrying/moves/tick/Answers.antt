@@ -19,4 +19,4 @@ pub returns-clause-keeps : goal.returns-clause-keeps
 returns-clause-keeps g c =
     let a = sitting c.args.board.now c.args.wire.now c.args.register.now in
     let planned : Ok c.in_ok-step.step ≡ tick_plan (g.R.Rota.size c.args.board.now.rota) (moment_of g.G.Register a) c.args.process c.args.ticks = search rules in
-    carried g.R.Rota g.G.Register g.met.R.Rota.inside a _ _ c.in_ok-step.step _ planned refl c.carry_out.ensures (ticks _ c.args.ticks _)
+    carried g.R.Rota g.G.Register g.met.R.Rota.inside a _ _ c.in_ok-step.step _ planned refl c.carry_out.ensures.leaves (ticks _ c.args.ticks _)
