@@ -112,7 +112,7 @@ impl<'a> Scene<'a> {
         &self.wire[..usize::from(self.table.used)]
     }
 
-    // The same of its wire.
+    // Room on its wire and in the register.
     pub fn find_room<G: Register>(&self, register: &G) -> Result<(), Refusal>
         ensures { FindsRoom G.Register.ROOM (shown self.now (G.Register.pairs register.now)) result }
     {
