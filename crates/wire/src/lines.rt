@@ -7,7 +7,7 @@ use arrayvec::ArrayString;
 use itoa::Buffer;
 
 impl Record {
-    // The columns, with one blank between.
+    // The columns, with one blank between. Pushed one by one: `write!` would answer an error that cannot come.
     fn columns(&self, index: u16) -> ArrayString<48>
         ensures { result.bytes ≡ columns_of index self.now }
     {
