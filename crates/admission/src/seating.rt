@@ -16,7 +16,8 @@ use wire::Record;
 // No more records of a wire can be used.
 const LONGEST_WIRE: usize = 65_535;
 
-// Whether the rota fits the committee, and board and used records are in range.
+// Whether the rota fits the committee, and board and used records are in range. It answers whether, as any caller may ask;
+// moves and queries go by find_order, which answers the cause.
 pub fn in_order<R: Rota>(board: &Board<R>, wire: &[Record]) -> bool
     ensures { result ≡ in_order (R.Rota.size board.now.rota) board.now.table wire.now }
 {
@@ -112,7 +113,7 @@ impl<'a> Scene<'a> {
         &self.wire[..usize::from(self.table.used)]
     }
 
-    // Room on its wire and in the register.
+    // Room on its wire and in the register: the function above asks for no scene, and spelled out at four callers it is no plainer.
     pub fn find_room<G: Register>(&self, register: &G) -> Result<(), Refusal>
         ensures { FindsRoom G.Register.ROOM (shown self.now (G.Register.pairs register.now)) result }
     {

@@ -102,6 +102,7 @@ impl<'a> Arrival<'a> {
     }
 }
 
+// Board, wire and register come one by one, as in the plans of own moves.
 pub fn plan_deliver<R: Rota, G: Register>(
     board: &Board<R>,
     wire: &[Record],

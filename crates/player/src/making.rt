@@ -29,7 +29,8 @@ fn draft_of(injection: Injection) -> Draft
     }
 }
 
-// A board is opened only once: another OPEN is out of place, and changes nothing.
+// A board is opened only once: another OPEN is out of place, and changes nothing. One call for each move, each with arguments of
+// its own and with board, wire and register as they are lent.
 fn make<R: Rota, G: Register>(
     board: &mut Board<R>,
     wire: &mut [Record],

@@ -35,6 +35,7 @@ impl Field<'_> {
     fn known_tag(&self) -> Result<Tag, Fault>
         ensures { result ≡ known self.now.tag (length self.now.content.now) self.now.byte }
     {
+        // By `map_err` and `?` the proof did not close.
         match Tag::try_from(self.tag) {
             Ok(tag) if tag.allows(self.content.len()) => Ok(tag),
             Ok(_) => Err(self.fault(Refusal::WrongLength)),

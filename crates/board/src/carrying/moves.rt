@@ -1,5 +1,6 @@
 // The five moves on a board. Each is one function of the sitting, the board with its wire and its register: contracts say
 // which board, wire, register and answer follow, and that a sitting that is a run goes on as one, with all that is promised.
+// The three are lent one by one; carrying.rt says why.
 ghost use Rattle.protocol.specs.Runs.{sitting, Ticks, Proposes, Expires, Delivers, Injects};
 ghost use Rattle.safety.specs.Promises.{Keeps};
 
