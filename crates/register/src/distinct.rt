@@ -10,6 +10,7 @@ use committee::ProcessSet;
 pub fn distinct_processes<Q, T: Attests<Q>>(items: &[T], query: &Q) -> ProcessSet
     ensures { Gathered (seen T.process (λ x. T.counts x query.now) items.now) result }
 {
+    // Written out, as in the tally.
     let mut found = ProcessSet { bits: 0 };
     for x in items {
         let p = x.process();

@@ -12,6 +12,7 @@ pub(crate) struct Row {
 }
 
 impl Row {
+    // One place says when a row is a statement's; spelled out in a closure it is no plainer.
     pub(crate) fn is_of(&self, statement: Statement) -> bool
         ensures { result ≡ same_statement self.now.statement statement }
     {

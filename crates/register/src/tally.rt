@@ -46,6 +46,7 @@ fn mark(rows: &mut Vec<Row>, pair: Pair)
             rows[i].signers = rows[i].signers.with(pair.process);
         }
         None => {
+            // The empty set is written out, here and below: with its default the proofs did not close.
             let signers = ProcessSet { bits: 0 }.with(pair.process);
             rows.push_reserved(Row {
                 statement: pair.statement,
