@@ -13,7 +13,7 @@ pub const LAST_VIEW: u32 = 720_885;
 pub const LAST_EPOCH: u32 = 65_535;
 
 impl Committee {
-    // The epoch of a view and its place there, both counted from 1.
+    // The epoch of a view and its place there, both counted from 1: a pair, which callers take apart, is the answer that is asked for.
     pub fn epoch_place(&self, view: u32) -> Result<(u32, u8), Refusal>
         ensures value { MatchResult result
             (λ x. (is_view view ≡ true) × (x.0 ≡ epoch_of self.now.f view) × (x.1 ≡ place_of self.now.f view))
