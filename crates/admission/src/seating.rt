@@ -25,7 +25,7 @@ pub fn in_order<R: Rota>(board: &Board<R>, wire: &[Record]) -> bool
     fitting && board.table.in_range() && board.table.wire_in_range(wire)
 }
 
-// The same as a test that refuses.
+// The same test, where a board that fails it is refused.
 pub fn find_order<R: Rota>(board: &Board<R>, wire: &[Record]) -> Result<(), Refusal>
     ensures { FindsOrder (R.Rota.size board.now.rota) board.now.table wire.now result }
 {
