@@ -54,7 +54,8 @@ pub fn list(heap: Global, bytes: &[u8], text: &mut String) -> fmt::Result
     ensures laid { LaidOut bytes.now }
 {
     let mut moves = Vec::new(heap);
-    let fault = read_to_fault(bytes, &mut moves)?;
+    // What was read is written, also where memory then ran out.
+    let fault = read_to_fault(bytes, &mut moves);
     write_moves(moves.as_slice(), text)?;
-    write_fault(fault, text)
+    write_fault(fault?, text)
 }
