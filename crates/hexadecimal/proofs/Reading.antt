@@ -1,6 +1,6 @@
 -- One turn of the loop that reads a text. Assumes nothing.
-use Rattle.std.proofs.Common.{◌≡◌, ℕ, true, false, cond, ◌||◌, List, [], ◌∷◌, ◌++◌, Some, None, Option, sym, refl, ap, ◌∙◌, append_assoc, arith}
-use Rattle.std.proofs.lemmas.Bool.{cond-true, cond-false, or_from}
+use Rattle.std.proofs.Common.{◌≡◌, ℕ, false, ◌||◌, List, [], ◌∷◌, ◌++◌, Some, None, Option, sym, refl, ap, ◌∙◌, append_assoc, arith}
+use Rattle.std.proofs.lemmas.Bool.{cond-false, or_from}
 use Rattle.std.proofs.lemmas.Bool.Decides.{nat_tests}
 use Rattle.std.specs.Option.{option_map}
 use Rattle.hexadecimal.specs.Bytes.{blank, in_comment, stripped_in, digit_of, byte_of, followed, paired}
@@ -27,14 +27,6 @@ stays c cs out dark =
 read_digit : (c d : ℕ) (cs : List ℕ) → digit_of c ≡ Some d → stripped_in false (c ∷ cs) ≡ c ∷ stripped_in false cs
 read_digit c d cs e = let p = plain c d e in stays c cs p.0 p.1
 
-waits : (c d : ℕ) (digits : List ℕ) → digit_of c ≡ Some d → joined (Some d) digits ≡ joined None (c ∷ digits)
-waits c d [] e = refl
-waits c d (low ∷ digits) e = ap (λ o. followed (byte_of o (digit_of low)) (paired digits)) (sym e)
-
-pub first : (bytes : List ℕ) (c d : ℕ) (cs : List ℕ) → digit_of c ≡ Some d → read_on bytes (Some d) (stripped_in false cs) ≡ read_on bytes None (stripped_in false (c ∷ cs))
-first bytes c d cs e =
-    ap (option_map (λ more. bytes ++ more)) (waits c d (stripped_in false cs) e ∙ ap (joined None) (sym (read_digit c d cs e)))
-
 -- bytes behind bytes
 behind : (bytes : List ℕ) (byte : ℕ) (more : Option (List ℕ)) → option_map (λ rest. (bytes ++ byte ∷ []) ++ rest) more ≡ option_map (λ rest. bytes ++ rest) (followed (Some byte) more)
 behind bytes byte None = refl
@@ -47,23 +39,3 @@ second bytes after high c d byte cs e made more =
     ∙ ap (λ o. option_map (λ m. bytes ++ m) (followed o (paired (stripped_in false cs)))) (sym made)
     ∙ ap (λ o. option_map (λ m. bytes ++ m) (followed (byte_of (Some high) o) (paired (stripped_in false cs)))) (sym e)
     ∙ ap (read_on bytes (Some high)) (sym (read_digit c d cs e))
-
--- what is no digit, no blank and no sign of a comment
-nothing_followed : (high : Option ℕ) (rest : Option (List ℕ)) → followed (byte_of high None) rest ≡ None
-nothing_followed None rest = refl
-nothing_followed (Some h) rest = refl
-
-broken : (high : Option ℕ) (c : ℕ) (digits : List ℕ) → digit_of c ≡ None → joined high (c ∷ digits) ≡ None
-broken None c [] e = refl
-broken None c (low ∷ digits) e = ap (λ o. followed (byte_of o (digit_of low)) (paired digits)) e
-broken (Some high) c digits e = ap (λ o. followed (byte_of (Some high) o) (paired digits)) e
-
-pub stops : (bytes : List ℕ) (high : Option ℕ) (c : ℕ) (cs : List ℕ) → digit_of c ≡ None → in_comment false c ≡ false → blank c ≡ false → None ≡ read_on bytes high (stripped_in false (c ∷ cs))
-stops bytes high c cs e out dark =
-    sym (ap (option_map (λ more. bytes ++ more)) (ap (joined high) (stays c cs out dark) ∙ broken high c (stripped_in false cs) e))
-
--- a blank
-pub skips : (c : ℕ) (cs : List ℕ) → blank c ≡ true → stripped_in false cs ≡ stripped_in false (c ∷ cs)
-skips c cs is =
-    let out : in_comment false c ≡ false = grind (arith, nat_tests) in
-    sym (ap (λ b. cond (b || blank c) (stripped_in b cs) (c ∷ stripped_in b cs)) out ∙ cond-true (blank c) _ _ is)

@@ -26,7 +26,7 @@ const DIGITS: [u8; 256] = [
     255, 255, 255,
 ];
 
-// Looked up: a match on the ranges took half as long again.
+// By a table, for speed: most of a text is digits.
 fn digit_of(byte: u8) -> Option<u8>
     ensures value { result ≡ digit_of byte }
     ensures few { IfSome result (λ digit. digit < 16) }
