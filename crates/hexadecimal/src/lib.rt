@@ -57,13 +57,13 @@ fn newline(text: &[u8]) -> Option<usize>
     text.iter().position(|byte| *byte == b'\n')
 }
 
-// What stands behind a comment: the newline that ends it, and all that follows.
+// What stands behind a comment and the newline that ends it.
 fn behind_comment(text: &[u8]) -> &[u8]
     ensures kept { stripped_in true text.now ≡ stripped_in false result.now }
     ensures shorter { length result.now ≤ length text.now }
 {
     match newline(text) {
-        Some(end) => &text[end..],
+        Some(end) => &text[end + 1..],
         None => &[],
     }
 }
