@@ -9,16 +9,16 @@ use Rattle.hexadecimal.specs.Bytes.{blank, in_comment, stripped_in}
 abbrev newline_at : List ℕ → ℕ
 newline_at text = position_or_len (λ c. eqb c 10) text
 
+next : (n : ℕ) → suc n ≡ 1 + n
+next n = omega arith
+
 step : (b : Bool) (c : ℕ) (cs : List ℕ) → b ≡ eqb c 10 → stripped_in true cs ≡ stripped_in false (drop (newline_at cs) cs) → stripped_in true (c ∷ cs) ≡ stripped_in false (drop (cond (not b) (1 + newline_at cs) 0) (c ∷ cs))
 step true c cs e rest =
     let ten : c ≡ 10 = eqb-true c 10 (sym e) in
     ap (λ k. stripped_in true (k ∷ cs)) ten ∙ ap (λ k. stripped_in false (k ∷ cs)) (sym ten)
 step false c cs e rest =
     let on : in_comment true c ≡ true = not_from_false (eqb c 10) (sym e) in
-    cond-true (in_comment true c || blank c) _ _ (or_left (in_comment true c) (blank c) on) ∙ ap (λ b. stripped_in b cs) on ∙ rest ∙ ap (λ k. stripped_in false (drop k (c ∷ cs))) next
-  where
-    next : suc (newline_at cs) ≡ 1 + newline_at cs
-    next = omega arith
+    cond-true (in_comment true c || blank c) _ _ (or_left (in_comment true c) (blank c) on) ∙ ap (λ b. stripped_in b cs) on ∙ rest ∙ ap (λ k. stripped_in false (drop k (c ∷ cs))) (next (newline_at cs))
 
 ended : (text : List ℕ) → stripped_in true text ≡ stripped_in false (drop (newline_at text) text)
 ended [] = refl
@@ -35,9 +35,8 @@ none_place false p e = refl
 at_newline_step : (b : Bool) (c : ℕ) (cs : List ℕ) → b ≡ eqb c 10 → cond (not b) (1 + newline_at cs) 0 < length (c ∷ cs) → (newline_at cs < length cs → get_or cs (newline_at cs) 0 ≡ 10) → get_or (c ∷ cs) (cond (not b) (1 + newline_at cs) 0) 0 ≡ 10
 at_newline_step true c cs e inside rest = eqb-true c 10 (sym e)
 at_newline_step false c cs e inside rest =
-    let next : suc (newline_at cs) ≡ 1 + newline_at cs = omega arith in
     let left : newline_at cs < length cs = omega (arith, inside) in
-    ap (λ k. get_or (c ∷ cs) k 0) (sym next) ∙ rest left
+    ap (λ k. get_or (c ∷ cs) k 0) (sym (next (newline_at cs))) ∙ rest left
 
 at_newline : (text : List ℕ) → newline_at text < length text → get_or text (newline_at text) 0 ≡ 10
 at_newline [] inside = absurd (omega (arith, inside))

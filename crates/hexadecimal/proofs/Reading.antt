@@ -20,8 +20,8 @@ plain : (c d : ℕ) → digit_of c ≡ Some d → (in_comment false c ≡ false)
 plain c d e = (grind (arith, nat_tests), grind (arith, nat_tests))
 
 stays : (c : ℕ) (cs : List ℕ) → in_comment false c ≡ false → blank c ≡ false → stripped_in false (c ∷ cs) ≡ c ∷ stripped_in false cs
-stays c cs out dark =
-    cond-false (in_comment false c || blank c) _ _ (or_from (in_comment false c) (blank c) out dark) ∙ ap (λ b. c ∷ stripped_in b cs) out
+stays c cs out no_blank =
+    cond-false (in_comment false c || blank c) _ _ (or_from (in_comment false c) (blank c) out no_blank) ∙ ap (λ b. c ∷ stripped_in b cs) out
 
 -- a digit of a known value is read
 read_digit : (c d : ℕ) (cs : List ℕ) → digit_of c ≡ Some d → stripped_in false (c ∷ cs) ≡ c ∷ stripped_in false cs
